@@ -1,0 +1,4 @@
+pub mod Differences
+pub mod Signs
+pub mod Bounds
+pub mod Points

@@ -1,0 +1,5 @@
+pub mod Range
+pub mod Plane
+pub mod Turn
+pub mod Walks
+pub mod Drawing

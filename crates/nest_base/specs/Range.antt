@@ -1,0 +1,18 @@
+-- How far from the origin places lie.
+use Rattle.std.specs.Prelude.{ℕ, ℤ, pos, neg_ℤ, ◌≤ℤ◌}
+use Rattle.nest_base.specs.declared.places.Point.{Point}
+use Rattle.nest_base.specs.declared.places.Segment.{Segment}
+
+-- a coordinate lies within plus and minus n
+abbrev pub IsNear : ℕ → ℤ → Type 0
+IsNear n z = (neg_ℤ (pos n) ≤ℤ z) × (z ≤ℤ pos n)
+
+-- both coordinates lie within plus and minus n
+pub record IsWithin (n : ℕ) (p : Point) : Type 0 where
+  pub x : IsNear n p.x
+  pub y : IsNear n p.y
+
+-- both ends do
+pub record IsSegmentWithin (n : ℕ) (s : Segment) : Type 0 where
+  pub a : IsWithin n s.a
+  pub b : IsWithin n s.b

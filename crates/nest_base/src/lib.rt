@@ -1,0 +1,17 @@
+//! Places, segments and lists: what every layer of the planner speaks of.
+//!
+//! Places are whole micrometres. The predicates on them are exact: no product is rounded, and no sum wraps. The lists grow
+//! by one call at a time, and after want of memory they are as they were.
+//!
+//! This is the lowest layer. Readers fill a `Drawing`, and the layers above cut, join and follow its segments.
+#![tactic(auto)]
+
+pub mod drawing;
+pub mod memory;
+pub mod places;
+pub mod text;
+
+pub use drawing::{Drawing, Name};
+pub use memory::OutOfMemory;
+pub use places::{Point, Segment, between, cross};
+pub use text::Text;

@@ -1,0 +1,84 @@
+//! Places of the plate and the segments between them, in whole micrometres.
+ghost use Rattle.std.specs.Prelude.{◌≡◌, ◌<◌, ◌^◌, ◌-ℤ◌, ◌*ℤ◌, unsigned_abs, IsTrue, ◌↔◌};
+ghost use Rattle.nest_base.specs.Plane.{IsBetween, IsOn, rational, direction, cross_product};
+ghost use Rattle.nest_base.specs.Range.{IsNear, IsWithin};
+
+/// A place, or the way from one place to another, in micrometres.
+#[derive(Clone, Copy, Debug, PartialEq, Eq, PartialOrd, Ord, Hash, Drop)]
+pub struct Point {
+    pub x: i64,
+    pub y: i64,
+}
+
+/// A straight cut between two places.
+#[derive(Clone, Copy, Debug, PartialEq, Eq, Drop)]
+pub struct Segment {
+    pub a: Point,
+    pub b: Point,
+    /// The number of the line of the file that it comes from, from 1.
+    pub line: u32,
+}
+
+/// How far `a` lies past `b`, on one axis.
+fn difference(a: i64, b: i64) -> i128
+    requires a_near { IsNear 2000000000 a }
+    requires b_near { IsNear 2000000000 b }
+    ensures value { result ≡ a -ℤ b }
+    ensures small { unsigned_abs result < 2 ^ 32 }
+{
+    i128::from(a) - i128::from(b)
+}
+
+/// The product of two small numbers, exact.
+fn product(a: i128, b: i128) -> i128
+    requires a_small { unsigned_abs a < 2 ^ 33 }
+    requires b_small { unsigned_abs b < 2 ^ 33 }
+    ensures value { result ≡ a *ℤ b }
+    ensures small { unsigned_abs result < 2 ^ 66 }
+{
+    a * b
+}
+
+/// The cross product of `a - o` and `b - o`, exact: positive where one turns left at `o` from `a` to `b`.
+///
+/// It is twice the signed area of the triangle `o`, `a`, `b`, in square micrometres.
+pub fn cross(o: Point, a: Point, b: Point) -> i128
+    requires o_within { IsWithin 2000000000 o }
+    requires a_within { IsWithin 2000000000 a }
+    requires b_within { IsWithin 2000000000 b }
+    ensures { result ≡ cross_product (direction o a) (direction o b) }
+{
+    let left = product(difference(a.x, o.x), difference(b.y, o.y));
+    let right = product(difference(a.y, o.y), difference(b.x, o.x));
+    left - right
+}
+
+/// Whether `p` lies between the ends of `s` in x.
+fn is_across(p: Point, s: &Segment) -> bool
+    ensures { IsTrue result ↔ IsBetween s.now.a.x p.x s.now.b.x }
+{
+    (s.a.x <= p.x && p.x <= s.b.x) || (s.b.x <= p.x && p.x <= s.a.x)
+}
+
+/// Whether `p` lies between the ends of `s` in y.
+fn is_up(p: Point, s: &Segment) -> bool
+    ensures { IsTrue result ↔ IsBetween s.now.a.y p.y s.now.b.y }
+{
+    (s.a.y <= p.y && p.y <= s.b.y) || (s.b.y <= p.y && p.y <= s.a.y)
+}
+
+/// Whether `p` lies on `s`, ends included.
+pub fn between(p: Point, s: &Segment) -> bool
+    requires p_within { IsWithin 2000000000 p }
+    requires a_within { IsWithin 2000000000 s.now.a }
+    requires b_within { IsWithin 2000000000 s.now.b }
+    ensures { IsTrue result ↔ IsOn (rational p) s.now.a s.now.b }
+{
+    if cross(p, s.a, s.b) != 0 {
+        return false;
+    }
+    if !is_across(p, s) {
+        return false;
+    }
+    is_up(p, s)
+}
