@@ -9,6 +9,8 @@
 pub mod drawing;
 pub mod memory;
 pub mod places;
+#[cfg(test)]
+mod tests;
 pub mod text;
 
 pub use drawing::{Drawing, Name};
