@@ -1,0 +1,12 @@
+pub mod Factors
+pub mod Between
+pub mod Lines
+pub mod Apart
+pub mod Sharing
+pub mod Along
+pub mod Crossing
+pub mod Collinear
+pub mod Meeting
+pub mod Folding
+pub mod Corners
+pub mod EachTwo
