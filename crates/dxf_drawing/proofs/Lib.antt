@@ -1,0 +1,4 @@
+pub mod FirstLines
+pub mod FirstPairs
+pub mod TextEnd
+pub mod Places

@@ -1,0 +1,5 @@
+pub mod Steps
+pub mod Numbers
+pub mod Lines
+pub mod Pairs
+pub mod Entities
