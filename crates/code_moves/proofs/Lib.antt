@@ -1,0 +1,10 @@
+mod Bytes
+pub mod Numbers
+mod WrittenLines
+mod LineWords
+mod CodeLines
+pub mod Places
+mod Pieces
+mod Steps
+mod Chains
+pub mod WrittenCode

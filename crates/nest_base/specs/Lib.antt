@@ -3,3 +3,7 @@ pub mod Plane
 pub mod Turn
 pub mod Walks
 pub mod Drawing
+pub mod Lines
+pub mod Routes
+pub mod HalfEdges
+pub mod Selection

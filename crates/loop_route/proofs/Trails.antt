@@ -1,0 +1,124 @@
+-- Trails: how their legs are counted, how they grow, and where they lead.
+use Rattle.std.proofs.Common.{arith, ◌≡◌, ◌⊎◌, inl, inr, ⊎_elim, ℕ, zero, ◌+◌, ◌-◌, ◌*◌, ◌<◌, List, [], ◌∷◌, ◌++◌, length, Some, Contains, get_or, ap, subst, ◌∙◌, sym, refl}
+use Rattle.std.specs.List.{AllZip, slice_get, swap_remove}
+use Rattle.std.proofs.lemmas.List.Sorted.{IsPermutation-swap_remove, IsPermutation-pop_more}
+use Rattle.std.proofs.lemmas.Option.{none-some, same_Some, slice_get_within, get_or_from_slice_get}
+use Rattle.nest_base.specs.declared.places.Point.{Point}
+use Rattle.nest_base.specs.declared.places.Segment.{Segment}
+use Rattle.nest_base.specs.Plane.{HalfEdge}
+use Rattle.nest_base.specs.Walks.{Walk}
+use Rattle.nest_base.specs.Walks.Walk.{here, on}
+use Rattle.nest_base.specs.HalfEdges.{IsHalfEdgeOf}
+use Rattle.loop_route.specs.Ends.{degree, IsJoinedTo, half_edge}
+use Rattle.loop_route.specs.Marks.{IsMarkSide}
+use Rattle.nest_base.specs.Routes.{legs}
+use Rattle.loop_route.specs.Trails.{IsFollowedAt, IsTrail}
+use Rattle.loop_route.proofs.Members.{Contains-head, Contains-later}
+use Rattle.loop_route.proofs.Degrees.{one_at, one_at_cases, degree-cons}
+use Rattle.loop_route.proofs.HalfEdges.{half_edge_ends}
+
+-- the last of a place and those after it
+abbrev pub last_of : Point → List Point → Point
+last_of p [] = p
+last_of p (q ∷ places) = last_of q places
+
+last_at : (p : Point) (places : List Point) → slice_get (p ∷ places) (length places) ≡ Some (last_of p places)
+last_at p [] = refl
+last_at p (q ∷ places) = last_at q places
+
+pub last_is : (p : Point) (places : List Point) → slice_get (p ∷ places) (length (p ∷ places) - 1) ≡ Some (last_of p places)
+last_is p places =
+    let e : length (p ∷ places) - 1 ≡ length places = omega arith in
+    rw e (last_at p places)
+
+-- with its two ends counted once more, a trail has an even number of ends at each place
+pub balance : (v p : Point) (places : List Point) (order : List Segment) → AllZip IsHalfEdgeOf order (legs (p ∷ places)) → (k : ℕ) × (degree order v + one_at v p + one_at v (last_of p places) ≡ 2 * k)
+balance v p [] [] each = (one_at v p, omega arith)
+balance v p [] (s ∷ order) each = absurd each
+balance v p (q ∷ places) [] each = absurd each
+balance v p (q ∷ places) (s ∷ order) each =
+    let later = balance v q places order each.1 in
+    (one_at v p + later.0, omega (arith, later.1, degree-cons s order v, half_edge_ends s (half_edge p q) v each.0))
+
+-- an end of a trail's segments is its first place, its second one, or an end of the later segments
+end_cases : (s : Segment) (order : List Segment) (p q x : Point) → IsHalfEdgeOf s (half_edge p q) → zero < degree (s ∷ order) x → (x ≡ p) ⊎ ((x ≡ q) ⊎ (zero < degree order x))
+end_cases s order p q x half some = ⊎_elim
+    (λ at_p. inl at_p.0)
+    (λ not_p. inr (⊎_elim (λ at_q. inl at_q.0) (λ not_q. inr (omega (arith, degree-cons s order x, half_edge_ends s (half_edge p q) x half, not_p.1, not_q.1))) (one_at_cases x q)))
+    (one_at_cases x p)
+
+-- each end of a trail's segments is joined to its last place
+pub leads_on : (segments : List Segment) (p : Point) (places : List Point) (order : List Segment) → AllZip IsHalfEdgeOf order (legs (p ∷ places)) → ((s : Segment) → Contains order s → Contains segments s) →
+    (x : Point) → (x ≡ p) ⊎ (zero < degree order x) → Walk (IsJoinedTo segments) (last_of p places) x
+leads_on segments p [] [] each among x (inl e) = subst (λ y. Walk (IsJoinedTo segments) p y) (sym e) here
+leads_on segments p [] [] each among x (inr some) = absurd (omega arith)
+leads_on segments p [] (s ∷ order) each among x end = absurd each
+leads_on segments p (q ∷ places) [] each among x end = absurd each
+leads_on segments p (q ∷ places) (s ∷ order) each among x end =
+    let goes : Point → Type 0 = λ y. Walk (IsJoinedTo segments) (last_of q places) y in
+    let further : (y : Point) → (y ≡ q) ⊎ (zero < degree order y) → goes y = leads_on segments q places order each.1 (λ t later. among t (Contains-later s order t later)) in
+    let first : goes p = on (s, among s (Contains-head s order), each.0) (further q (inl refl)) in
+    let from_p : x ≡ p → goes x = λ same. subst goes (sym same) first in
+    ⊎_elim from_p (λ some. ⊎_elim from_p (further x) (end_cases s order p q x each.0 some)) end
+
+-- a leg more at the end
+pub legs-push : (p : Point) (places : List Point) (q : Point) → legs (p ∷ places ++ q ∷ []) ≡ legs (p ∷ places) ++ record { from = last_of p places; to = q } ∷ []
+legs-push p [] q = refl
+legs-push p (r ∷ places) q = ap (λ later. record { from = p; to = r } ∷ later) (legs-push r places q)
+
+pub last_of-push : (p : Point) (places : List Point) (q : Point) → last_of p (places ++ q ∷ []) ≡ q
+last_of-push p [] q = refl
+last_of-push p (r ∷ places) q = last_of-push r places q
+
+-- the half-edge at an index, at what is taken out there
+taken_half_edge : (rest : List Segment) (index : ℕ) (s : Segment) (h : HalfEdge) → IsFollowedAt rest index h → s ≡ get_or rest index s → IsHalfEdgeOf s h
+taken_half_edge rest index s h (t, is, half) out = subst (λ x. IsHalfEdgeOf x h) (sym (out ∙ get_or_from_slice_get rest index t s is)) half
+
+-- a trail begins with the mark side
+pub trail_begun : (segments : List Segment) (mark to : Point) (index : ℕ) (s : Segment) → IsMarkSide segments (half_edge mark to) → IsFollowedAt segments index (half_edge mark to) → s ≡ get_or segments index s →
+    IsTrail segments mark (mark ∷ to ∷ []) to (swap_remove segments index s)
+trail_begun segments mark to index s side followed out = record {
+  to = to;
+  is_mark_side = side;
+  begins = refl;
+  ends = refl;
+  order = s ∷ [];
+  same_segments = IsPermutation-swap_remove segments index s (slice_get_within segments index followed.0 followed.1) out;
+  each_once = (taken_half_edge segments index s (half_edge mark to) followed out, tt);
+}
+
+begins_still : (places : List Point) (q : Point) (h : HalfEdge) → slice_get (legs places) 0 ≡ Some h → slice_get (legs (places ++ q ∷ [])) 0 ≡ Some h
+begins_still [] q h begins = absurd (none-some h begins)
+begins_still (p ∷ []) q h begins = absurd (none-some h begins)
+begins_still (p ∷ r ∷ places) q h begins = begins
+
+ends_later : (places : List Point) (q : Point) (h : HalfEdge) → slice_get (legs places) 0 ≡ Some h → slice_get (places ++ q ∷ []) (length (places ++ q ∷ []) - 1) ≡ Some q
+ends_later [] q h begins = absurd (none-some h begins)
+ends_later (p ∷ places) q h begins = last_is p (places ++ q ∷ []) ∙ ap (λ v. Some v) (last_of-push p places q)
+
+each_push : (order : List Segment) (steps : List HalfEdge) (s : Segment) (h : HalfEdge) → AllZip IsHalfEdgeOf order steps → IsHalfEdgeOf s h → AllZip IsHalfEdgeOf (order ++ s ∷ []) (steps ++ h ∷ [])
+each_push [] [] s h each half = (half, tt)
+each_push [] (g ∷ steps) s h each half = absurd each
+each_push (t ∷ order) [] s h each half = absurd each
+each_push (t ∷ order) (g ∷ steps) s h each half = (each.0, each_push order steps s h each.1 half)
+
+each_more : (places : List Point) (last q : Point) (h : HalfEdge) (order : List Segment) (s : Segment) → slice_get (legs places) 0 ≡ Some h → slice_get places (length places - 1) ≡ Some last →
+    AllZip IsHalfEdgeOf order (legs places) → IsHalfEdgeOf s (half_edge last q) → AllZip IsHalfEdgeOf (order ++ s ∷ []) (legs (places ++ q ∷ []))
+each_more [] last q h order s begins ends each half = absurd (none-some h begins)
+each_more (p ∷ places) last q h order s begins ends each half =
+    let is_last : last_of p places ≡ last = same_Some _ _ (sym (last_is p places) ∙ ends) in
+    let half_from : IsHalfEdgeOf s (record { from = last_of p places; to = q }) = subst (λ v. IsHalfEdgeOf s (half_edge v q)) (sym is_last) half in
+    subst (λ l. AllZip IsHalfEdgeOf (order ++ s ∷ []) l) (sym (legs-push p places q)) (each_push order (legs (p ∷ places)) s (record { from = last_of p places; to = q }) each half_from)
+
+-- and goes on with any segment that is left at its last place
+pub trail_more : (segments : List Segment) (mark : Point) (places : List Point) (last : Point) (rest : List Segment) (index : ℕ) (s : Segment) (to : Point) → IsTrail segments mark places last rest →
+    IsFollowedAt rest index (half_edge last to) → s ≡ get_or rest index s → IsTrail segments mark (places ++ to ∷ []) to (swap_remove rest index s)
+trail_more segments mark places last rest index s to t followed out = record {
+  to = t.to;
+  is_mark_side = t.is_mark_side;
+  begins = begins_still places to (half_edge mark t.to) t.begins;
+  ends = ends_later places to (half_edge mark t.to) t.begins;
+  order = t.order ++ s ∷ [];
+  same_segments = IsPermutation-pop_more segments t.order rest (swap_remove rest index s) s t.same_segments (IsPermutation-swap_remove rest index s (slice_get_within rest index followed.0 followed.1) out);
+  each_once = each_more places last to (half_edge mark t.to) t.order s t.begins t.ends t.each_once (taken_half_edge rest index s (half_edge last to) followed out);
+}

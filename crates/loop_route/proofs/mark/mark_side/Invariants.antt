@@ -1,0 +1,6 @@
+use Rattle.std.proofs.Common.{take}
+use Rattle.loop_route.proofs.Sides.{IsBestOf}
+use Rattle.loop_route.proofs.mark.mark_side.Given as goal
+
+abbrev pub invariant-loop-index : goal.invariant-loop-index
+invariant-loop-index l = IsBestOf l.segments (take l.index l.segments) l.mark l.best

@@ -1,0 +1,4 @@
+pub mod Words
+pub mod Report
+pub mod Outputs
+pub mod Statuses

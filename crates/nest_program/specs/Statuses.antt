@@ -1,0 +1,82 @@
+-- What each status says of a run.
+use Rattle.std.specs.Prelude.{◌≡◌, ◌≢◌, ◌⊎◌, ℕ, ◌^◌, ◌<◌, ◌≤◌, List, [], length, ⊤, codes}
+use Rattle.cut_desk.specs.Outside.{Outside, Rose, SameHeld, IsPartlyWritten, IsPartlyPrinted, made_of, print_more}
+use Rattle.nest_program.specs.Outputs.{IsAccepted, IsRefused, IsOutput}
+use Rattle.nest_program.specs.declared.status.Early.TheVariants.{NotPlain, NotOneLoop}
+use Rattle.nest_program.specs.declared.status.Status.{Status}
+use Rattle.nest_program.specs.declared.status.Status.TheVariants.{Done, Words, ReadFault, TooLong, Early, WriteFault, PrintFault, Memory}
+
+abbrev pub exit_code_of : Status → ℕ
+exit_code_of Done = 0
+exit_code_of Words = 2
+exit_code_of ReadFault = 3
+exit_code_of TooLong = 3
+exit_code_of (Early early) = 4
+exit_code_of WriteFault = 5
+exit_code_of PrintFault = 5
+exit_code_of Memory = 6
+
+-- the line that is printed for a status
+abbrev pub fault_text : Status → List ℕ
+fault_text Done = []
+fault_text Words = codes "usage: plan IN OUT\n"
+fault_text ReadFault = codes "read fault\n"
+fault_text TooLong = codes "file too long\n"
+fault_text (Early NotPlain) = codes "refused not plain\n"
+fault_text (Early NotOneLoop) = codes "refused not one loop\n"
+fault_text WriteFault = codes "write fault\n"
+fault_text PrintFault = []
+fault_text Memory = codes "out of memory\n"
+
+-- what a status says of the drawing in IN: with every status but a read fault and want of memory it's decided
+abbrev pub IsDecided : Status → List ℕ → Type 0
+IsDecided TooLong file = 2 ^ 26 < length file
+IsDecided (Early early) file = (length file ≤ 2 ^ 26) × IsRefused file early
+IsDecided Done file = (length file ≤ 2 ^ 26) × IsAccepted file
+IsDecided WriteFault file = (length file ≤ 2 ^ 26) × IsAccepted file
+IsDecided PrintFault file = (length file ≤ 2 ^ 26) × IsAccepted file
+IsDecided status file = ⊤
+
+-- which count of faults rose
+abbrev pub HasCause : Status → List ℕ → List ℕ → Outside → Outside → Type 0
+HasCause ReadFault input output old new = Rose (old.read_faults input) (new.read_faults input)
+HasCause WriteFault input output old new = Rose (old.write_faults output) (new.write_faults output)
+HasCause PrintFault input output old new = Rose old.print_faults new.print_faults
+HasCause status input output old new = ⊤
+
+-- what stands in OUT, and what was printed of the report
+abbrev pub OutputIs : Status → List ℕ → List ℕ → Outside → Outside → Type 0
+OutputIs Done drawing output old new =
+    (code : List ℕ) × (report : List ℕ) × IsOutput drawing code report × (new.held output ≡ made_of (old.held output) code) × (new.printed ≡ print_more old.printed report)
+OutputIs PrintFault drawing output old new =
+    (code : List ℕ) × (report : List ℕ) × IsOutput drawing code report × (new.held output ≡ made_of (old.held output) code) × IsPartlyPrinted old.printed new.printed report
+OutputIs WriteFault drawing output old new =
+    (code : List ℕ) × (report : List ℕ) × IsOutput drawing code report × IsPartlyWritten (old.held output) (new.held output) code
+OutputIs status drawing output old new = ⊤
+
+-- which files may have changed: none, or OUT alone
+abbrev pub OthersSame : List ℕ → Outside → Outside → Type 0
+OthersSame output old new = (other : List ℕ) → other ≢ output → new.held other ≡ old.held other
+
+abbrev pub FilesAre : Status → List ℕ → Outside → Outside → Type 0
+FilesAre Done output old new = OthersSame output old new
+FilesAre PrintFault output old new = OthersSame output old new
+FilesAre WriteFault output old new = OthersSame output old new
+FilesAre status output old new = SameHeld old new
+
+-- the status's line was printed, or a front of it where the printing failed
+abbrev pub IsFaultLine : Status → Outside → Outside → Type 0
+IsFaultLine status old new =
+    (new.printed ≡ print_more old.printed (fault_text status)) ⊎ (Rose old.print_faults new.print_faults × IsPartlyPrinted old.printed new.printed (fault_text status))
+
+-- what is printed where no report is
+abbrev pub PrintsLine : Status → Outside → Outside → Type 0
+PrintsLine Done old new = ⊤
+PrintsLine PrintFault old new = ⊤
+PrintsLine status old new = IsFaultLine status old new
+
+-- nothing is printed where no report is
+abbrev pub IsQuiet : Status → Outside → Outside → Type 0
+IsQuiet Done old new = ⊤
+IsQuiet PrintFault old new = ⊤
+IsQuiet status old new = new.printed ≡ old.printed

@@ -1,0 +1,70 @@
+//! From the bytes of a drawing to the code and the report, all in memory.
+ghost use Rattle.std.specs.Prelude.{◌≡◌, ◌≤◌, ◌∷◌, [], length, IfOk, IsErrOf};
+ghost use Rattle.code_moves.specs.CodeText.{code_text};
+ghost use Rattle.nest_program.specs.Outputs.{IsRefused, IsOutput};
+ghost use Rattle.nest_program.specs.declared.output.PlanError.TheVariants.{OutOfMemory as NoMemory};
+
+use crate::report::put_loop_report;
+use crate::status::Early;
+use dxf_drawing::{PlainError, read_plain};
+use loop_route::route_round;
+use nest_base::{OutOfMemory, Point, Text};
+use ngc_writer::{write_chain, write_head, write_tail};
+use std::alloc::Global;
+use thiserror::Error;
+
+/// What a planned drawing gives: the code that is written to OUT, and the report that is printed.
+#[derive(Drop)]
+pub struct Output {
+    pub code: Text,
+    pub report: Text,
+}
+
+/// Why a drawing gives no output.
+#[derive(Clone, Copy, Debug, PartialEq, Eq, Drop, Error)]
+pub enum PlanError {
+    #[error("the drawing isn't planned")]
+    Refused(Early),
+    #[error("out of memory")]
+    OutOfMemory,
+}
+
+impl From<OutOfMemory> for PlanError {
+    ghost from_gives = { λ _ e. e ≡ NoMemory };
+
+    fn from(_: OutOfMemory) -> Self {
+        PlanError::OutOfMemory
+    }
+}
+
+/// The whole code of one chain through these places.
+fn code_of(alloc: Global, places: &[Point]) -> Result<Text, OutOfMemory>
+    requires { 2 ≤ length places.now }
+    ensures { IfOk result (λ code. code ≡ code_text (places.now ∷ [])) }
+{
+    let mut code = Text::new(alloc);
+    write_head(&mut code)?;
+    write_chain(places, &mut code)?;
+    write_tail(&mut code)?;
+    Ok(code)
+}
+
+/// The code and the report of a drawing, or why it gives none.
+pub fn output_of(alloc: Global, bytes: &[u8]) -> Result<Output, PlanError>
+    ensures ok { IfOk result (λ output. IsOutput bytes.now output.code output.report) }
+    ensures not_plain { IsErrOf result (PlanError.Refused Early.NotPlain) → IsRefused bytes.now Early.NotPlain }
+    ensures not_one_loop { IsErrOf result (PlanError.Refused Early.NotOneLoop) → IsRefused bytes.now Early.NotOneLoop }
+{
+    let drawing = match read_plain(alloc, bytes) {
+        Ok(drawing) => drawing,
+        Err(PlainError::NotPlain) => return Err(PlanError::Refused(Early::NotPlain)),
+        Err(PlainError::OutOfMemory) => return Err(PlanError::OutOfMemory),
+    };
+    let Some(places) = route_round(alloc, drawing.segments())? else {
+        return Err(PlanError::Refused(Early::NotOneLoop));
+    };
+    let code = code_of(alloc, places.as_slice())?;
+    let mut report = Text::new(alloc);
+    put_loop_report(drawing.segments().len(), &mut report)?;
+    Ok(Output { code, report })
+}

@@ -1,0 +1,4 @@
+pub mod Apart
+mod Pairs
+mod MovesAlong
+pub mod SoundRoutes
