@@ -23,7 +23,7 @@ pub fn free_forms()
         move south_west (place 4000 12000) false false 4 ∷ move (place 4000 12000) (place 0 10000) true true 6
         ∷ move (place 0 10000) (record { x = negsuc 499; y = pos 10000 }) true false 8 ∷ [] }
     ensures idle { code_refusal_of (codes "G17 G17 G40 G49 G94 M02") ≡ None }
-    ensures dwell { code_refusal_of (codes "G4 P1.5 M30") ≡ None }
+    ensures dwell { code_refusal_of (codes "G4 P5.5 M30") ≡ None }
     ensures negative_zero { code_refusal_of (codes "F-0.0 M2") ≡ None }
     ensures motion_on_the_line { code_refusal_of (codes "X1 G0 M2") ≡ None }
     ensures after_the_end { code_refusal_of (codes "M2\n?!") ≡ None }
@@ -50,7 +50,7 @@ pub fn bad_lines()
     ensures long_label { code_refusal_of (codes "N123456\nM2") ≡ Some (BadLine 1) }
     ensures late_label { code_refusal_of (codes "M2 N1") ≡ Some (BadLine 1) }
     ensures dwell_without_time { code_refusal_of (codes "G4 M30") ≡ Some (BadLine 1) }
-    ensures time_without_dwell { code_refusal_of (codes "P1 M30") ≡ Some (BadLine 1) }
+    ensures time_without_dwell { code_refusal_of (codes "P5 M30") ≡ Some (BadLine 1) }
     ensures negative { code_refusal_of (codes "F0 S-1 M2") ≡ Some (BadLine 1) }
     ensures no_motion { code_refusal_of (codes "X1 M2") ≡ Some (BadLine 1) }
     ensures two_of_a_group { code_refusal_of (codes "M3 M5 M2") ≡ Some (BadLine 1) }

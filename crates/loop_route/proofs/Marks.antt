@@ -8,7 +8,7 @@ use Rattle.loop_route.proofs.Degrees.{degree_pos, end_from_degree}
 use Rattle.nest_base.specs.declared.places.Point.{Point}
 use Rattle.nest_base.specs.declared.places.Segment.{Segment}
 use Rattle.loop_route.specs.Ends.{ends_of}
-use Rattle.loop_route.specs.Marks.{IsMarkedBefore}
+use Rattle.nest_base.specs.Order.{IsMarkedBefore}
 
 -- p is v, or comes before it
 abbrev pub IsNotAfter : Point → Point → Type 0

@@ -12,7 +12,8 @@ use Rattle.nest_base.specs.Turn.{IsInsideAngle, west}
 use Rattle.loop_route.specs.declared.ends.Leg.{Leg}
 use Rattle.nest_base.specs.HalfEdges.{IsHalfEdgeOf, IsHalfEdge}
 use Rattle.loop_route.specs.Ends.{ends_of, half_edge}
-use Rattle.loop_route.specs.Marks.{IsMark, IsMarkedBefore, IsMarkSide, TurnsLeftAt}
+use Rattle.nest_base.specs.Order.{IsMarkedBefore}
+use Rattle.loop_route.specs.Marks.{IsMark, IsMarkSide, TurnsLeftAt}
 use Rattle.loop_route.specs.Trails.{IsFollowedAt}
 use Rattle.loop_route.proofs.Members.{Contains-nil, Contains-cons_cases, Contains-head, Contains-later}
 use Rattle.loop_route.proofs.Degrees.{degree_pos, end_from_degree}

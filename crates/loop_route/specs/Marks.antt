@@ -3,13 +3,10 @@ use Rattle.std.specs.Prelude.{◌≡◌, ◌<ℤ◌, ◌⊎◌, List, Contains}
 use Rattle.nest_base.specs.declared.places.Point.{Point}
 use Rattle.nest_base.specs.declared.places.Segment.{Segment}
 use Rattle.nest_base.specs.Plane.{HalfEdge, direction, heading}
+use Rattle.nest_base.specs.Order.{IsMarkedBefore}
 use Rattle.nest_base.specs.Turn.{TurnsLeft, IsInsideAngle, west}
 use Rattle.nest_base.specs.HalfEdges.{IsHalfEdge}
 use Rattle.loop_route.specs.Ends.{ends_of, Leaves}
-
--- the order of mark vertices: the least x first, then the greatest y
-abbrev pub IsMarkedBefore : Point → Point → Type 0
-IsMarkedBefore a b = (a.x <ℤ b.x) ⊎ ((a.x ≡ b.x) × (b.y <ℤ a.y))
 
 -- the mark vertex comes first of all ends
 pub record IsMark (segments : List Segment) (mark : Point) : Type 0 where

@@ -3,7 +3,8 @@ ghost use Rattle.std.specs.Prelude.{◌≡◌, ◌≢◌, ◌<◌, ◌⊎◌, le
 ghost use Rattle.std.specs.Option.{ForSome};
 ghost use Rattle.nest_base.specs.Range.{IsWithin, IsSegmentWithin};
 ghost use Rattle.loop_route.specs.Ends.{half_edge};
-ghost use Rattle.loop_route.specs.Marks.{IsMark, IsMarkedBefore, IsMarkSide, TurnsLeftAt};
+ghost use Rattle.nest_base.specs.Order.{IsMarkedBefore};
+ghost use Rattle.loop_route.specs.Marks.{IsMark, IsMarkSide, TurnsLeftAt};
 ghost use Rattle.loop_route.specs.Trails.{IsFollowedAt};
 
 use crate::ends::{Leg, other_end};

@@ -7,3 +7,5 @@ pub mod Lines
 pub mod Routes
 pub mod HalfEdges
 pub mod Selection
+pub mod Sight
+pub mod Order

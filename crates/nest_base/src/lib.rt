@@ -15,5 +15,5 @@ pub mod text;
 
 pub use drawing::{Drawing, Name};
 pub use memory::OutOfMemory;
-pub use places::{Point, Segment, between, cross};
+pub use places::{Edge, Point, Segment, between, cross};
 pub use text::Text;

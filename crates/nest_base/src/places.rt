@@ -19,6 +19,13 @@ pub struct Segment {
     pub line: u32,
 }
 
+/// A cut with no vertex inside it: an edge of the plane graph that the torch follows. `low` is less than `high` by x, then by y.
+#[derive(Clone, Copy, Debug, PartialEq, Eq, Drop)]
+pub struct Edge {
+    pub low: Point,
+    pub high: Point,
+}
+
 /// How far `a` lies past `b`, on one axis.
 fn difference(a: i64, b: i64) -> i128
     requires a_near { IsNear 2000000000 a }

@@ -1,2 +1,3 @@
 pub mod Ranges
-pub mod SoundOutputs
+pub mod Promises
+pub mod PlannedOutputs

@@ -1,4 +1,5 @@
 pub mod Words
 pub mod Report
+pub mod Promise
 pub mod Outputs
 pub mod Statuses

@@ -4,10 +4,9 @@ use Rattle.nest_base.specs.declared.places.Point.{Point}
 use Rattle.nest_base.specs.declared.places.Segment.{Segment}
 use Rattle.code_moves.specs.CodeText.{code_text}
 use Rattle.code_moves.specs.Meaning.{code_refusal_of, moves_of}
-use Rattle.sound_code.specs.Sound.{IsSoundLoopCode}
 use Rattle.dxf_drawing.specs.Entities.{plain_segments}
 use Rattle.loop_route.specs.Loops.{IsOneLoop, IsRoute}
-use Rattle.nest_program.specs.Report.{loop_report}
+use Rattle.nest_program.specs.Promise.{IsOrderEnclosingPlan}
 use Rattle.nest_program.specs.declared.status.Early.{Early}
 use Rattle.nest_program.specs.declared.status.Early.TheVariants.{NotPlain, NotOneLoop}
 
@@ -22,8 +21,8 @@ abbrev pub IsRefused : List ℕ → Early → Type 0
 IsRefused file NotPlain = plain_segments file ≡ None
 IsRefused file NotOneLoop = (segments : List Segment) × (plain_segments file ≡ Some segments) × (IsOneLoop segments → ⊥)
 
--- the code and the report of an accepted drawing: one chain, the route round the loop. Read as motion, the code has no fault and
--- burns each segment once and nothing else
+-- the code and the report of an accepted drawing: the code is one chain, the route round the loop, and read as motion it has no
+-- fault and keeps the promise
 pub record IsOutput (file code report : List ℕ) : Type 0 where
   pub segments : List Segment
   pub plain : plain_segments file ≡ Some segments
@@ -32,5 +31,4 @@ pub record IsOutput (file code report : List ℕ) : Type 0 where
   pub route : IsRoute segments places
   pub code_is : code ≡ code_text (places ∷ [])
   pub has_no_fault : code_refusal_of code ≡ None
-  pub sound : IsSoundLoopCode segments (moves_of code)
-  pub report_is : report ≡ loop_report (length segments)
+  pub promise : IsOrderEnclosingPlan segments (moves_of code) report

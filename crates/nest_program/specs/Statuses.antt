@@ -1,7 +1,11 @@
 -- What each status says of a run.
-use Rattle.std.specs.Prelude.{◌≡◌, ◌≢◌, ◌⊎◌, ℕ, ◌^◌, ◌<◌, ◌≤◌, List, [], length, ⊤, codes}
+use Rattle.std.specs.Prelude.{◌≡◌, ◌≢◌, ◌⊎◌, ℕ, ◌^◌, ◌<◌, ◌≤◌, List, [], length, ⊤, codes, Some, None}
 use Rattle.cut_desk.specs.Outside.{Outside, Rose, SameHeld, IsPartlyWritten, IsPartlyPrinted, made_of, print_more}
+use Rattle.nest_base.specs.declared.places.Segment.{Segment}
+use Rattle.code_moves.specs.Meaning.{code_refusal_of, moves_of}
+use Rattle.dxf_drawing.specs.Entities.{plain_segments}
 use Rattle.nest_program.specs.Outputs.{IsAccepted, IsRefused, IsOutput}
+use Rattle.nest_program.specs.Promise.{IsOrderEnclosingPlan}
 use Rattle.nest_program.specs.declared.status.Early.TheVariants.{NotPlain, NotOneLoop}
 use Rattle.nest_program.specs.declared.status.Status.{Status}
 use Rattle.nest_program.specs.declared.status.Status.TheVariants.{Done, Words, ReadFault, TooLong, Early, WriteFault, PrintFault, Memory}
@@ -44,6 +48,16 @@ HasCause WriteFault input output old new = Rose (old.write_faults output) (new.w
 HasCause PrintFault input output old new = Rose old.print_faults new.print_faults
 HasCause status input output old new = ⊤
 
+-- none of the counts that the command's calls raise where they fail has risen
+pub record NoFaultRose (input output : List ℕ) (old new : Outside) : Type 0 where
+  pub reads : Rose (old.read_faults input) (new.read_faults input) → ⊥
+  pub writes : Rose (old.write_faults output) (new.write_faults output) → ⊥
+  pub prints : Rose old.print_faults new.print_faults → ⊥
+
+-- an accepted drawing within the limit is planned, or memory ran out
+abbrev pub IsComplete : Status → List ℕ → Type 0
+IsComplete status file = length file ≤ 2 ^ 26 → IsAccepted file → (status ≡ Done) ⊎ (status ≡ Memory)
+
 -- what stands in OUT, and what was printed of the report
 abbrev pub OutputIs : Status → List ℕ → List ℕ → Outside → Outside → Type 0
 OutputIs Done drawing output old new =
@@ -53,6 +67,17 @@ OutputIs PrintFault drawing output old new =
 OutputIs WriteFault drawing output old new =
     (code : List ℕ) × (report : List ℕ) × IsOutput drawing code report × IsPartlyWritten (old.held output) (new.held output) code
 OutputIs status drawing output old new = ⊤
+
+-- the promise is kept for what was read from IN, written to OUT and printed
+pub record KeepsPromise (drawing output : List ℕ) (old new : Outside) : Type 0 where
+  pub segments : List Segment
+  pub read : plain_segments drawing ≡ Some segments
+  pub code : List ℕ
+  pub written : new.held output ≡ made_of (old.held output) code
+  pub has_no_fault : code_refusal_of code ≡ None
+  pub report : List ℕ
+  pub printed : new.printed ≡ print_more old.printed report
+  pub promise : IsOrderEnclosingPlan segments (moves_of code) report
 
 -- which files may have changed: none, or OUT alone
 abbrev pub OthersSame : List ℕ → Outside → Outside → Type 0

@@ -1,8 +1,8 @@
 //! The top call.
-ghost use Rattle.std.specs.Prelude.{◌≡◌, ◌≢◌, ◌↔◌, None, map, string_bytes, IfSome, IfNone};
+ghost use Rattle.std.specs.Prelude.{◌≡◌, ◌≢◌, ◌↔◌, Some, None, map, string_bytes, IfSome, IfNone};
 ghost use Rattle.cut_desk.specs.Outside.{Later, SameHeld, WhereTold};
 ghost use Rattle.nest_program.specs.Words.{plan_of};
-ghost use Rattle.nest_program.specs.Statuses.{IsDecided, HasCause, FilesAre, OutputIs, IsQuiet, IsFaultLine, PrintsLine};
+ghost use Rattle.nest_program.specs.Statuses.{IsDecided, HasCause, NoFaultRose, IsComplete, FilesAre, KeepsPromise, OutputIs, IsQuiet, IsFaultLine, PrintsLine};
 
 use crate::output::{PlanError, output_of};
 use crate::status::{Status, fault_line};
@@ -17,8 +17,10 @@ const MOST_BYTES: u64 = 67_108_864;
 fn plan<D: Desk>(alloc: Global, desk: &mut D, input: &str, output: &str) -> Status
     ensures words { result ≢ Status.Words }
     ensures decided { WhereTold ((D.seen desk.old).held input.now) (IsDecided result) }
+    ensures absent { (D.seen desk.old).held input.now ≡ Some None → result ≡ Status.ReadFault }
     ensures cause { HasCause result input.now output.now (D.seen desk.old) (D.seen desk.new) }
-    ensures output { WhereTold ((D.seen desk.old).held input.now) (λ file. OutputIs result file output.now (D.seen desk.old) (D.seen desk.new)) }
+    ensures output { WhereTold ((D.seen desk.old).held input.now) (λ drawing.
+        OutputIs result drawing output.now (D.seen desk.old) (D.seen desk.new)) }
     ensures files { FilesAre result output.now (D.seen desk.old) (D.seen desk.new) }
     ensures quiet { IsQuiet result (D.seen desk.old) (D.seen desk.new) }
     ensures later { Later (D.seen desk.old) (D.seen desk.new) }
@@ -52,14 +54,36 @@ fn print_fault_line<D: Desk>(desk: &mut D, status: Status)
     let _ = print_whole(desk, fault_line(status));
 }
 
-/// Runs the words, those after the program's own name.
+/// Runs the words, those after the program's own name: `plan IN OUT`.
+///
+/// IN is read to its end and planned in memory before OUT is touched, and OUT is written before anything is printed. Every
+/// status but `Done` and `PrintFault` prints its line. Want of memory may come in place of any other answer to `plan IN OUT`.
 pub fn run<D: Desk>(alloc: Global, words: &[String], desk: &mut D) -> Status
+    // Which answer comes, and why.
     ensures words { (result ≡ Status.Words) ↔ (plan_of (map string_bytes words.now) ≡ None) }
-    ensures decided { IfSome (plan_of (map string_bytes words.now)) (λ f. WhereTold ((D.seen desk.old).held f.input) (IsDecided result)) }
-    ensures cause { IfSome (plan_of (map string_bytes words.now)) (λ f. HasCause result f.input f.output (D.seen desk.old) (D.seen desk.new)) }
-    ensures output { IfSome (plan_of (map string_bytes words.now)) (λ f. WhereTold ((D.seen desk.old).held f.input) (λ file. OutputIs result file f.output (D.seen desk.old) (D.seen desk.new))) }
-    ensures files { IfSome (plan_of (map string_bytes words.now)) (λ f. FilesAre result f.output (D.seen desk.old) (D.seen desk.new)) }
-    ensures no_files { IfNone (plan_of (map string_bytes words.now)) (SameHeld (D.seen desk.old) (D.seen desk.new)) }
+    ensures decided { IfSome (plan_of (map string_bytes words.now)) (λ f.
+        WhereTold ((D.seen desk.old).held f.input) (IsDecided result)) }
+    ensures absent { IfSome (plan_of (map string_bytes words.now)) (λ f.
+        (D.seen desk.old).held f.input ≡ Some None → result ≡ Status.ReadFault) }
+    ensures cause { IfSome (plan_of (map string_bytes words.now)) (λ f.
+        HasCause result f.input f.output (D.seen desk.old) (D.seen desk.new)) }
+    ensures complete { IfSome (plan_of (map string_bytes words.now)) (λ f.
+        NoFaultRose f.input f.output (D.seen desk.old) (D.seen desk.new) →
+        WhereTold ((D.seen desk.old).held f.input) (IsComplete result)) }
+
+    // What a planned drawing gives.
+    ensures headline { IfSome (plan_of (map string_bytes words.now)) (λ f. result ≡ Status.Done →
+        WhereTold ((D.seen desk.old).held f.input) (λ drawing.
+        KeepsPromise drawing f.output (D.seen desk.old) (D.seen desk.new))) }
+
+    // What stands after each answer.
+    ensures output { IfSome (plan_of (map string_bytes words.now)) (λ f.
+        WhereTold ((D.seen desk.old).held f.input) (λ drawing.
+        OutputIs result drawing f.output (D.seen desk.old) (D.seen desk.new))) }
+    ensures files { IfSome (plan_of (map string_bytes words.now)) (λ f.
+        FilesAre result f.output (D.seen desk.old) (D.seen desk.new)) }
+    ensures no_files { IfNone (plan_of (map string_bytes words.now))
+        (SameHeld (D.seen desk.old) (D.seen desk.new)) }
     ensures line { PrintsLine result (D.seen desk.old) (D.seen desk.new) }
 {
     let Some(files) = plan_words(words) else {

@@ -285,6 +285,43 @@ fn a_thousand_lines_are_planned_and_no_more(rt: HostRuntime) -> Result<()> {
     Ok(())
 }
 
+/// The code of the strip: along the upper level to the east, and along the lower one back.
+fn strip_code_of(alloc: Global, width: u32) -> Result<String, AllocError>
+    requires { width < 10000 }
+{
+    let mut code = String::from_str(alloc, "G21 G90\nF1000 S1\nG0 X0.000 Y1.000\nM3\n")?;
+    for k in 1..width + 1 {
+        code.push_str(format!(in alloc; "G1 X{k}.000 Y1.000\n")?.as_str())?;
+    }
+    for k in 0..width + 1 {
+        code.push_str(format!(in alloc; "G1 X{}.000 Y0.000\n", width - k)?.as_str())?;
+    }
+    code.push_str("G1 X0.000 Y1.000\nM5\nM2\n")?;
+    Ok(code)
+}
+
+#[test]
+fn a_loop_of_two_hundred_edges_is_planned(rt: HostRuntime) -> Result<()> {
+    let alloc = rt.alloc();
+    let strip = strip_of(alloc, 99)?;
+    let mut lines = Vec::new(alloc);
+    for line in &strip {
+        lines.push(line.as_str())?;
+    }
+    let mut desk = desk_with(alloc, drawing_of(alloc, &lines)?.as_str())?;
+    let status = run(
+        alloc,
+        &words_of(alloc, &["plan", "a.dxf", "a.ngc"])?,
+        &mut desk,
+    );
+    ensure!(status == Status::Done);
+    ensure!(desk.file("a.ngc") == Some(strip_code_of(alloc, 99)?.as_bytes()));
+    let report =
+        b"component 1 edges 200 odd 0 bound 1 limit 1 pierces 1\ntotal pierces 1 bound 1\nfewest\n";
+    ensure!(desk.printed() == report.as_slice());
+    Ok(())
+}
+
 #[test]
 fn each_call_of_the_desk_fails_in_turn(rt: HostRuntime) -> Result<()> {
     let alloc = rt.alloc();

@@ -24,7 +24,8 @@ fn names_file(word: &str) -> bool
 ///
 /// No memory is taken.
 pub fn plan_words(words: &[String]) -> Option<Files<'_>>
-    ensures { option_map (λ f. record { input = f.input.now; output = f.output.now }) result ≡ plan_of (map string_bytes words.now) }
+    ensures { option_map (λ f. record { input = f.input.now; output = f.output.now }) result
+        ≡ plan_of (map string_bytes words.now) }
 {
     let [command, input, output] = words else {
         return None;

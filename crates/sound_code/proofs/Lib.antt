@@ -1,4 +1,6 @@
-pub mod Apart
+mod Apart
 mod Pairs
 mod MovesAlong
 pub mod SoundRoutes
+pub mod RouteLightings
+pub mod RouteChains

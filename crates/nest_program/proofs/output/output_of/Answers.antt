@@ -1,6 +1,6 @@
 use Rattle.std.proofs.Common.{arith, ◌≡◌, ◌≤◌, ◌++◌, length, ◌∙◌, ap}
 use Rattle.nest_program.specs.Report.{loop_report}
-use Rattle.nest_program.proofs.SoundOutputs.{output_from}
+use Rattle.nest_program.proofs.PlannedOutputs.{output_from}
 use Rattle.nest_program.proofs.output.output_of.Goals as goal
 
 pub returns-clause-ok : goal.returns-clause-ok

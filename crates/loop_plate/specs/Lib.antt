@@ -1,0 +1,5 @@
+pub mod Loops
+pub mod LoopReport
+pub mod LoopPlan
+pub mod Square
+pub mod Segments

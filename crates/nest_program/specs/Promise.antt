@@ -1,0 +1,24 @@
+-- The promise of `run` for a drawing that it plans.
+use Rattle.std.specs.Prelude.{ℕ, ◌≤◌, List}
+use Rattle.nest_base.specs.declared.places.Point.{Point}
+use Rattle.nest_base.specs.declared.places.Segment.{Segment}
+use Rattle.nest_base.specs.declared.places.Edge.{Edge}
+use Rattle.plate_edges.specs.Edges.{AreEdgesOf}
+use Rattle.plate_sides.specs.Components.{IsMark}
+use Rattle.plate_covers.specs.Limit.{IsLimit}
+use Rattle.pierce_bound.specs.Bound.{NoCoverUndercuts}
+use Rattle.pierce_report.specs.Report.{IsReport}
+use Rattle.code_moves.specs.declared.moves.Move.{Move}
+use Rattle.sound_code.specs.Sound.{IsSoundCode}
+use Rattle.sound_code.specs.Lightings.{Lighting, AreLightings, HasPierces}
+
+-- the segments are those of the drawing that was read, the moves those of the code that was written, and the report is what was printed
+pub record IsOrderEnclosingPlan (segments : List Segment) (moves : List Move) (report : List ℕ) : Type 0 where
+  pub edges : List Edge
+  pub are_edges : AreEdgesOf segments edges
+  pub sound : IsSoundCode edges moves
+  pub lightings : List Lighting
+  pub are_lightings : AreLightings edges moves lightings
+  pub within_limits : (mark : Point) → IsMark edges mark → (limit : ℕ) × (n : ℕ) × IsLimit edges mark limit × HasPierces edges lightings mark n × (n ≤ limit)
+  pub reported : IsReport edges (HasPierces edges lightings) report
+  pub no_cover_undercuts : (mark : Point) → IsMark edges mark → NoCoverUndercuts edges mark
