@@ -9,6 +9,7 @@ use Rattle.nest_base.specs.declared.places.Point.{Point}
 use Rattle.nest_base.specs.Plane.{HalfEdge}
 use Rattle.nest_base.specs.Range.{IsNear, IsWithin}
 use Rattle.nest_base.specs.Routes.{legs}
+use Rattle.nest_base.proofs.Lists.{last_of}
 use Rattle.code_moves.specs.BurntChains.{IsChain, begins_lighting}
 use Rattle.code_moves.specs.Meaning.{code_range}
 use Rattle.code_moves.specs.Words.{Words}
@@ -42,40 +43,35 @@ IsMoving h = h.from ≢ h.to
 abbrev AreCodePlaces : List Point → Type 0
 AreCodePlaces places = AllByRecursion IsCodePlace places
 
--- the last of p and these places
-abbrev last_place : Point → List Point → Point
-last_place p [] = p
-last_place p (q ∷ places) = last_place q places
-
 -- on from p, where the torch has burnt already, and put out at the end
 does_rest : (p : Point) (places : List Point) → IsCodePlace p → AreCodePlaces places → AllByRecursion IsMoving (legs (p ∷ places)) →
-    Does (burning true p) (burn_lines places) (legs (p ∷ places)) (map (λ _. false) (legs (p ∷ places))) (unlit (last_place p places))
+    Does (burning true p) (burn_lines places) (legs (p ∷ places)) (map (λ _. false) (legs (p ∷ places))) (unlit (last_of p places))
 does_rest p [] h k m = does_put_out p h
-does_rest p (q ∷ places) h k m = then_does (burning true p) (burning true q) (unlit (last_place q places)) (burn q ∷ []) (burn_lines places)
+does_rest p (q ∷ places) h k m = then_does (burning true p) (burning true q) (unlit (last_of q places)) (burn q ∷ []) (burn_lines places)
     (record { from = p; to = q } ∷ []) (legs (q ∷ places)) (false ∷ []) (map (λ _. false) (legs (q ∷ places)))
     (does_burn true p q m.0 k.0) (does_rest q places k.0 k.1 m.1)
 
 -- a chain from p over q and on: one lighting
 does_chain : (o p q : Point) (places : List Point) → AreCodePlaces (p ∷ q ∷ places) → AllByRecursion IsMoving (legs (p ∷ q ∷ places)) →
-    Does (unlit o) (chain_lines (p ∷ q ∷ places)) (legs (p ∷ q ∷ places)) (begins_lighting (legs (p ∷ q ∷ places))) (unlit (last_place q places))
+    Does (unlit o) (chain_lines (p ∷ q ∷ places)) (legs (p ∷ q ∷ places)) (begins_lighting (legs (p ∷ q ∷ places))) (unlit (last_of q places))
 does_chain o p q places h m =
     let marks = map (λ (leg : HalfEdge). false) (legs (q ∷ places)) in
     let leg : HalfEdge = record { from = p; to = q } in
-    let burnt = then_does (burning false p) (burning true q) (unlit (last_place q places)) (burn q ∷ []) (burn_lines places) (leg ∷ []) (legs (q ∷ places)) (true ∷ []) marks
+    let burnt = then_does (burning false p) (burning true q) (unlit (last_of q places)) (burn q ∷ []) (burn_lines places) (leg ∷ []) (legs (q ∷ places)) (true ∷ []) marks
     (does_burn false p q m.0 h.1.0) (does_rest q places h.1.0 h.1.1 m.1) in
-    let lit = then_does (unlit p) (burning false p) (unlit (last_place q places)) (torch_words 51 ∷ []) (burn_lines (q ∷ places)) [] (legs (p ∷ q ∷ places)) [] (true ∷ marks) (does_light p h.0) burnt in
-    then_does (unlit o) (unlit p) (unlit (last_place q places)) (travel p ∷ []) (torch_words 51 ∷ burn_lines (q ∷ places)) [] (legs (p ∷ q ∷ places)) [] (true ∷ marks) (does_travel o p h.0) lit
+    let lit = then_does (unlit p) (burning false p) (unlit (last_of q places)) (torch_words 51 ∷ []) (burn_lines (q ∷ places)) [] (legs (p ∷ q ∷ places)) [] (true ∷ marks) (does_light p h.0) burnt in
+    then_does (unlit o) (unlit p) (unlit (last_of q places)) (travel p ∷ []) (torch_words 51 ∷ burn_lines (q ∷ places)) [] (legs (p ∷ q ∷ places)) [] (true ∷ marks) (does_travel o p h.0) lit
 
 -- where a chain ends that is written while the torch is at o
 abbrev end_of : Point → List Point → Point
 end_of o [] = o
-end_of o (p ∷ places) = last_place p places
+end_of o (p ∷ places) = last_of p places
 
 abbrev pub end_of_all : Point → List (List Point) → Point
 end_of_all o [] = o
 end_of_all o (places ∷ chains) = end_of_all (end_of o places) chains
 
-last_is_code_place : (p : Point) (places : List Point) → IsCodePlace p → AreCodePlaces places → IsCodePlace (last_place p places)
+last_is_code_place : (p : Point) (places : List Point) → IsCodePlace p → AreCodePlaces places → IsCodePlace (last_of p places)
 last_is_code_place p [] h k = h
 last_is_code_place p (q ∷ places) h k = last_is_code_place q places k.0 k.1
 
@@ -89,7 +85,7 @@ written_chain places h = (h.several, all_imply (IsWithin code_range) IsCodePlace
 pub end_is_code_place : (o : Point) (chains : List (List Point)) → IsCodePlace o → AllByRecursion IsWrittenChain chains → IsCodePlace (end_of_all o chains)
 end_is_code_place o [] h k = h
 end_is_code_place o ([] ∷ chains) h k = end_is_code_place o chains h k.1
-end_is_code_place o ((p ∷ places) ∷ chains) h k = end_is_code_place (last_place p places) chains (last_is_code_place p places k.0.1.0 k.0.1.1) k.1
+end_is_code_place o ((p ∷ places) ∷ chains) h k = end_is_code_place (last_of p places) chains (last_is_code_place p places k.0.1.0 k.0.1.1) k.1
 
 -- the chains, one behind the other
 pub does_chains : (o : Point) (chains : List (List Point)) → AllByRecursion IsWrittenChain chains →
@@ -97,10 +93,10 @@ pub does_chains : (o : Point) (chains : List (List Point)) → AllByRecursion Is
 does_chains o [] h = does_nothing (unlit o)
 does_chains o ([] ∷ chains) h = absurd (omega (arith, h.0.0))
 does_chains o ((p ∷ []) ∷ chains) h = absurd (omega (arith, h.0.0))
-does_chains o ((p ∷ q ∷ places) ∷ chains) h = then_does (unlit o) (unlit (last_place q places)) (unlit (end_of_all (last_place q places) chains))
+does_chains o ((p ∷ q ∷ places) ∷ chains) h = then_does (unlit o) (unlit (last_of q places)) (unlit (end_of_all (last_of q places) chains))
     (chain_lines (p ∷ q ∷ places)) (flat_map chain_lines chains) (legs (p ∷ q ∷ places)) (flat_map legs chains)
     (begins_lighting (legs (p ∷ q ∷ places))) (flat_map (λ places. begins_lighting (legs places)) chains)
-    (does_chain o p q places h.0.1 h.0.2) (does_chains (last_place q places) chains h.1)
+    (does_chain o p q places h.0.1 h.0.2) (does_chains (last_of q places) chains h.1)
 
 -- where the torch stands at the beginning
 abbrev pub origin : Point

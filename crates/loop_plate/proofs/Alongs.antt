@@ -8,14 +8,16 @@ use Rattle.nest_base.specs.Plane.{HalfEdge, twin, heading}
 use Rattle.nest_base.specs.Order.{IsBefore}
 use Rattle.nest_base.specs.Turn.{IsInsideAngle}
 use Rattle.nest_base.specs.Routes.{legs}
+use Rattle.nest_base.proofs.Lists.{Contains-head, Contains-later, Contains-cases, Contains-none, AllZip-append}
 use Rattle.plate_sides.specs.Sides.{IsHalfEdgeOf, IsVertex, IsNextCcw}
 use Rattle.plate_sides.specs.Links.{IsAlong}
+use Rattle.plate_sides.proofs.HalfEdges.{one_edge}
 use Rattle.plate_covers.specs.Odd.{HasDegree}
 use Rattle.loop_plate.specs.Loops.{IsClosedRoute}
-use Rattle.loop_plate.proofs.Lists.{Chained, Chained-front, Chained-round, Chained-each, AllZip-append, Contains-head, Contains-later, Contains-cases, Contains-none}
+use Rattle.loop_plate.proofs.Lists.{Chained, Chained-front, Chained-round, Chained-each}
 use Rattle.std.proofs.lemmas.List.Elements.{Contains-append_cases}
 use Rattle.loop_plate.proofs.Angles.{not_first, not_last}
-use Rattle.loop_plate.proofs.HalfEdges.{one_edge, only_two, ends_differ, heading_is_long, twin_is_half_edge_of}
+use Rattle.loop_plate.proofs.HalfEdges.{only_two, ends_differ, heading_is_long, twin_is_half_edge_of}
 use Rattle.loop_plate.proofs.Routes.{Meets, closed_legs}
 use Rattle.loop_plate.proofs.Loops.{ends_before, order_is_distinct, in_edges}
 

@@ -1,22 +1,19 @@
 -- No angle holds either of its own directions; and which directions lie between an eastward one and west.
-use Rattle.std.proofs.Common.{arith, ◌≡◌, ◌⊎◌, inl, inr, ℤ, pos, ◌-ℤ◌, ◌*ℤ◌, neg_ℤ, ◌<ℤ◌, ◌≤ℤ◌}
+use Rattle.std.proofs.Common.{arith, ◌≡◌, inl, inr, ℤ, pos, ◌-ℤ◌, ◌*ℤ◌, neg_ℤ, ◌<ℤ◌, ◌≤ℤ◌}
 use Rattle.std.proofs.lemmas.Int.{ints, by_lt_z}
 use Rattle.nest_base.specs.declared.places.Point.{Point}
 use Rattle.nest_base.specs.Plane.{direction, cross_product, dot_product}
 use Rattle.nest_base.specs.Order.{IsBefore}
 use Rattle.nest_base.specs.Turn.{IsInsideAngle, below_half, above_half, half, whole, IsSameDirection, TurnsLeft, west}
-use Rattle.nest_base.proofs.Differences.{diff_of, diffs, diff_same}
+use Rattle.nest_base.proofs.Differences.{diff_of, diffs, diff_same, mul-neg}
+use Rattle.nest_base.proofs.Directions.{cross_product-self}
 use Rattle.nest_base.proofs.Signs.{mul_pos, mul_nonneg}
-
-mul_comm : (x y : ℤ) → x *ℤ y ≡ y *ℤ x
-mul_comm x y = rw (diff_of x, diff_of y) (simp diffs (diff_same _ _ _ _ (omega arith)))
-
-cross_product-self : (a : Point) → cross_product a a ≡ pos 0
-cross_product-self a = omega (arith, ints, mul_comm a.x a.y)
+use Rattle.loop_route.proofs.Turns.{IsEasterly, not_west}
+use Rattle.loop_route.proofs.Turns.IsEasterly.{east, south}
 
 IsSameDirection-sym : (a b : Point) → IsSameDirection a b → IsSameDirection b a
 IsSameDirection-sym a b (c, d) =
-    (omega (arith, ints, c, mul_comm a.x b.y, mul_comm a.y b.x), omega (arith, ints, d, mul_comm a.x b.x, mul_comm a.y b.y))
+    (omega (arith, ints, c), omega (arith, ints, d))
 
 pub not_first : (a b : Point) → pos 0 <ℤ dot_product a a → IsInsideAngle a a b → ⊥
 not_first a b long (below_half x y z) = omega (arith, ints, y, cross_product-self a)
@@ -53,60 +50,49 @@ direction-before a b (inr (level, up)) =
     let y = square_pos a.y b.y up in
     (omega (arith, ints, y.0, square_nonneg b.x a.x), omega (arith, ints, y.1, square_nonneg a.x b.x))
 
--- a direction that leads east, or else due south
-abbrev pub IsEastward : Point → Type 0
-IsEastward a = (pos 0 <ℤ a.x) ⊎ ((a.x ≡ pos 0) × (a.y <ℤ pos 0))
-
-not_westward : (a : Point) → IsEastward a → pos 0 ≤ℤ a.x
-not_westward a (inl east) = omega (arith, ints)
-not_westward a (inr south) = omega (arith, ints, south.0)
-
-eastward-up : (a : Point) → IsEastward a → pos 0 ≤ℤ a.y → pos 0 <ℤ a.x
-eastward-up a (inl east) up = east
-eastward-up a (inr south) up = absurd (omega (arith, ints, south.1))
+eastward-up : (a : Point) → IsEasterly a → pos 0 ≤ℤ a.y → pos 0 <ℤ a.x
+eastward-up a (east is_east) up = is_east
+eastward-up a (south level down) up = absurd (omega (arith, ints))
 
 -- what lies on the left of a direction that leads up leads up too
 up_on_left : (a b : Point) → pos 0 <ℤ a.x → pos 0 <ℤ a.y → pos 0 ≤ℤ b.x → TurnsLeft a b → pos 0 <ℤ b.y
-up_on_left a b east up not_west left = by_lt_z (pos 0) b.y (λ is. is) (λ low. absurd (omega (
+up_on_left a b ahead up at_least left = by_lt_z (pos 0) b.y (λ is. is) (λ low. absurd (omega (
   arith,
   ints,
   left,
-  mul_nonneg a.y b.x (omega (arith, ints)) not_west,
+  mul_nonneg a.y b.x (omega (arith, ints)) at_least,
   mul_nonneg a.x (neg_ℤ b.y) (omega (arith, ints)) (omega (arith, ints)),
-  mul_neg a.x b.y,
+  mul-neg a.x b.y,
 )))
-  where
-    mul_neg : (x y : ℤ) → x *ℤ neg_ℤ y ≡ neg_ℤ (x *ℤ y)
-    mul_neg x y = rw (diff_of x, diff_of y) (simp diffs (diff_same _ _ _ _ (omega arith)))
 
 -- of two directions that lead east, the one on the left of the other lies between it and west
-inside_before_west : (a b : Point) → IsEastward a → IsEastward b → TurnsLeft a b → IsInsideAngle a b west
+inside_before_west : (a b : Point) → IsEasterly a → IsEasterly b → TurnsLeft a b → IsInsideAngle a b west
 inside_before_west a b is_a is_b left =
     by_lt_z (pos 0) a.y
-    (λ up. below_half (omega (arith, ints)) left (omega (arith, ints, up_on_left a b (eastward-up a is_a (omega (arith, ints))) up (not_westward b is_b) left)))
+    (λ up. below_half (omega (arith, ints)) left (omega (arith, ints, up_on_left a b (eastward-up a is_a (omega (arith, ints))) up (not_west b is_b) left)))
     (λ not_up. by_lt_z a.y (pos 0)
-    (λ down. above_half (omega (arith, ints)) not_same (not_west b (not_westward b is_b)) not_left)
+    (λ down. above_half (omega (arith, ints)) not_same (not_westward b (not_west b is_b)) not_left)
     (λ level. opposite (omega (arith, ints))))
   where
     not_same : IsSameDirection b a → ⊥
-    not_same same = omega (arith, ints, left, same.0, mul_comm a.x b.y, mul_comm a.y b.x)
+    not_same same = omega (arith, ints, left, same.0)
 
-    not_west : (c : Point) → pos 0 ≤ℤ c.x → IsSameDirection c west → ⊥
-    not_west c east same = omega (arith, ints, east, same.1)
+    not_westward : (c : Point) → pos 0 ≤ℤ c.x → IsSameDirection c west → ⊥
+    not_westward c at_least same = omega (arith, ints, at_least, same.1)
 
     not_left : TurnsLeft west b × TurnsLeft b a → ⊥
-    not_left (x, y) = omega (arith, ints, left, y, mul_comm a.x b.y, mul_comm a.y b.x)
+    not_left (x, y) = omega (arith, ints, left, y)
 
     opposite : a.y ≡ pos 0 → IsInsideAngle a b west
     opposite level =
-        let east : pos 0 <ℤ a.x = eastward-up a is_a (omega (arith, ints, level)) in
+        let ahead : pos 0 <ℤ a.x = eastward-up a is_a (omega (arith, ints, level)) in
         half (omega (arith, ints, level), omega (arith, ints, level)) left
 
 -- two directions that lead east, neither of which lies between the other and west, lie on one line
-pub both_last : (a b : Point) → IsEastward a → IsEastward b →
+pub both_last : (a b : Point) → IsEasterly a → IsEasterly b →
     (IsInsideAngle a b west → ⊥) → (IsInsideAngle b a west → ⊥) → cross_product a b ≡ pos 0
 both_last a b is_a is_b last_a last_b =
     by_lt_z (pos 0) (cross_product a b) (λ left. absurd (last_a (inside_before_west a b is_a is_b left)))
     (λ low. by_lt_z (cross_product a b) (pos 0)
-    (λ right. absurd (last_b (inside_before_west b a is_b is_a (omega (arith, ints, right, mul_comm a.x b.y, mul_comm a.y b.x)))))
+    (λ right. absurd (last_b (inside_before_west b a is_b is_a (omega (arith, ints, right)))))
     (λ high. omega (arith, ints, low, high)))

@@ -3,12 +3,12 @@ use Rattle.std.proofs.Common.{arith, ◌≡◌, ◌≢◌, ◌⊎◌, ℕ, ◌%�
 use Rattle.nest_base.specs.declared.places.Point.{Point}
 use Rattle.nest_base.specs.declared.places.Edge.{Edge}
 use Rattle.nest_base.specs.Plane.{HalfEdge}
+use Rattle.nest_base.proofs.Lists.{AllPairs-none, Contains-head, Contains-none}
 use Rattle.plate_sides.specs.Sides.{IsVertex}
 use Rattle.plate_covers.specs.Odd.{IsOdd, AreOddVertices}
 use Rattle.plate_covers.specs.Limit.{IsLimit, no_odd as no_odd_limit, outer_odd, inner_odd}
 use Rattle.pierce_bound.specs.Bound.{IsBound, no_odd, some_odd}
 use Rattle.loop_plate.specs.Loops.{IsClosedRoute}
-use Rattle.loop_plate.proofs.Lists.{AllPairs-none, Contains-head, Contains-none}
 use Rattle.loop_plate.proofs.Selections.{same_count}
 use Rattle.loop_plate.proofs.Marks.{component_is_vertices}
 

@@ -9,14 +9,15 @@ use Rattle.nest_base.specs.Plane.{HalfEdge}
 use Rattle.nest_base.specs.Order.{IsBefore}
 use Rattle.nest_base.specs.Selection.{Selects, none, taken, passed, HasCount}
 use Rattle.nest_base.specs.Routes.{legs}
+use Rattle.nest_base.proofs.Lists.{Contains-head, Contains-later, Contains-cases, Contains-none, All-from_contains, AllPairs-to_later, AllPairs-rest}
 use Rattle.plate_sides.specs.Sides.{IsHalfEdge, IsHalfEdgeOf}
 use Rattle.plate_sides.specs.Components.{IsIn}
+use Rattle.plate_sides.proofs.HalfEdges.{one_edge}
 use Rattle.plate_covers.specs.Cover.{IsTrail, IsCover, HasTrailsIn}
 use Rattle.pierce_bound.specs.Bound.{NoCoverUndercuts}
 use Rattle.loop_plate.specs.Loops.{IsClosedRoute}
-use Rattle.loop_plate.proofs.Lists.{Chained, Chained-front, All-from_contains, AllPairs-first, AllPairs-rest, AllZip-first_of, Contains-head, Contains-later, Contains-cases, Contains-none}
+use Rattle.loop_plate.proofs.Lists.{Chained, Chained-front, AllZip-first_of}
 use Rattle.loop_plate.proofs.Selections.{Selects-none}
-use Rattle.loop_plate.proofs.HalfEdges.{one_edge}
 use Rattle.loop_plate.proofs.Routes.{Meets, closed_legs}
 use Rattle.loop_plate.proofs.Loops.{ends_before, in_edges, in_order, order_is_distinct, leg_is_half_edge, side_is_leg}
 use Rattle.loop_plate.proofs.Marks.{half_edge_is_in}
@@ -39,13 +40,13 @@ one_along (f ∷ es) (h ∷ hs) zip distinct before e c = elim (Contains-cases f
   | inl same ↦ (h ∷ [], taken (subst (λ g. IsHalfEdgeOf g h) same zip.0) (Selects-none (IsHalfEdgeOf e) hs (others same)), refl)
   | inr m ↦
       let rest = one_along es hs zip.1 (AllPairs-rest (λ e f. e ≢ f) f es distinct) (λ g d. before g (Contains-later f g es d)) e m in
-      (rest.0, passed (λ of. AllPairs-first (λ e f. e ≢ f) f e es distinct m (one_edge f e h (before f (Contains-head f es)) (before e c) zip.0 of)) rest.1, rest.2)
+      (rest.0, passed (λ of. AllPairs-to_later (λ e f. e ≢ f) f e es distinct m (one_edge f e h (before f (Contains-head f es)) (before e c) zip.0 of)) rest.1, rest.2)
 ]
   where
     others : f ≡ e → (k : HalfEdge) → Contains hs k → IsHalfEdgeOf e k → ⊥
     others same k d of =
         let g = AllZip-first_of IsHalfEdgeOf es hs k zip.1 d in
-        AllPairs-first (λ e f. e ≢ f) f g.0 es distinct g.1
+        AllPairs-to_later (λ e f. e ≢ f) f g.0 es distinct g.1
         (same ∙ one_edge e g.0 k (before e c) (before g.0 (Contains-later f g.0 es g.1)) of g.2)
 
 -- a trail's half-edges are half-edges of the edges

@@ -6,9 +6,9 @@ use Rattle.nest_base.specs.declared.places.Point.{Point}
 use Rattle.nest_base.specs.declared.places.Edge.{Edge}
 use Rattle.nest_base.specs.Order.{IsBefore}
 use Rattle.nest_base.specs.Selection.{none, taken, passed, HasCount}
+use Rattle.nest_base.proofs.Lists.{Contains-head, Contains-later}
+use Rattle.nest_base.proofs.Orders.{IsBefore-irrefl}
 use Rattle.plate_covers.specs.Odd.{HasDegree}
-use Rattle.loop_plate.proofs.Lists.{Contains-head, Contains-later}
-use Rattle.loop_plate.proofs.HalfEdges.{IsBefore-irrefl}
 
 -- a sum of 1 for each element that has P, and 0 for each other, counts those that have it
 pub HasCount-by_sum : {X : Type 0} (P : X → Type 0) (f : X → ℕ) (xs : List X) →

@@ -6,22 +6,13 @@ use Rattle.nest_base.specs.declared.places.Point.{Point}
 use Rattle.nest_base.specs.declared.places.Edge.{Edge}
 use Rattle.nest_base.specs.Plane.{HalfEdge, twin, heading, dot_product}
 use Rattle.nest_base.specs.Order.{IsBefore, IsMarkedBefore}
-use Rattle.plate_sides.specs.Sides.{forth, IsHalfEdgeOf, IsHalfEdge, Leaves}
+use Rattle.nest_base.proofs.Orders.{IsBefore-irrefl}
+use Rattle.plate_sides.specs.Sides.{IsHalfEdgeOf, IsHalfEdge, Leaves}
 use Rattle.plate_sides.specs.Reach.{HasEdge}
+use Rattle.plate_sides.proofs.HalfEdges.{one_edge}
 use Rattle.plate_covers.specs.Odd.{HasDegree}
 use Rattle.loop_plate.proofs.Selections.{one_of_two}
 use Rattle.loop_plate.proofs.Angles.{direction-before}
-
-pub IsBefore-asym : (a b : Point) → IsBefore a b → IsBefore b a → ⊥
-IsBefore-asym a b (inl h) (inl k) = omega (arith, ints)
-IsBefore-asym a b (inl h) (inr k) = omega (arith, ints, k.0)
-IsBefore-asym a b (inr h) (inl k) = omega (arith, ints, h.0)
-IsBefore-asym a b (inr h) (inr k) = omega (arith, ints, h.1, k.1)
-
-pub IsBefore-irrefl : (a b : Point) → IsBefore a b → a ≡ b → ⊥
-IsBefore-irrefl a b h e =
-    let loop : IsBefore a a = subst (IsBefore a) (sym e) h in
-    IsBefore-asym a a loop loop
 
 pub IsMarkedBefore-asym : (a b : Point) → IsMarkedBefore a b → IsMarkedBefore b a → ⊥
 IsMarkedBefore-asym a b (inl h) (inl k) = omega (arith, ints)
@@ -46,23 +37,6 @@ same_or_twin e h k (inl p) (inl q) = inl (p ∙ sym q)
 same_or_twin e h k (inl p) (inr q) = inr (p ∙ sym (ap twin q))
 same_or_twin e h k (inr p) (inl q) = inr (p ∙ sym (ap twin q))
 same_or_twin e h k (inr p) (inr q) = inl (p ∙ sym q)
-
-same_ends : (e f : Edge) → forth e ≡ forth f → e ≡ f
-same_ends e f p = ap (λ (h : HalfEdge). record { low = h.from; high = h.to }) p
-
-not_turned : (e f : Edge) → IsBefore e.low e.high → IsBefore f.low f.high → forth e ≡ twin (forth f) → ⊥
-not_turned e f ahead behind p =
-    let low : e.low ≡ f.high = ap (λ (h : HalfEdge). h.from) p in
-    let high : e.high ≡ f.low = ap (λ (h : HalfEdge). h.to) p in
-    let turned : IsBefore f.high e.high = subst (λ v. IsBefore v e.high) low ahead in
-    IsBefore-asym f.low f.high behind (subst (IsBefore f.high) high turned)
-
--- a half-edge belongs to one edge
-pub one_edge : (e f : Edge) (h : HalfEdge) → IsBefore e.low e.high → IsBefore f.low f.high → IsHalfEdgeOf e h → IsHalfEdgeOf f h → e ≡ f
-one_edge e f h a b (inl p) (inl q) = same_ends e f (sym p ∙ q)
-one_edge e f h a b (inl p) (inr q) = absurd (not_turned e f a b (sym p ∙ q))
-one_edge e f h a b (inr p) (inl q) = absurd (not_turned f e b a (sym q ∙ p))
-one_edge e f h a b (inr p) (inr q) = same_ends e f (ap twin (sym p ∙ q))
 
 -- one half-edge of an edge leaves each of its ends
 pub leaves_once : (e : Edge) (h k : HalfEdge) → IsBefore e.low e.high → IsHalfEdgeOf e h → IsHalfEdgeOf e k → h.from ≡ k.from → h ≡ k

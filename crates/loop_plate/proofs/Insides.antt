@@ -1,23 +1,24 @@
 -- The inside of a loop whose edges are all burnt: nothing leads from it to the outside.
-use Rattle.std.proofs.Common.{arith, ◌≡◌, ◌⊎◌, inl, inr, List, [], ◌∷◌, ◌++◌, refl, sym, ap, ◌∙◌, subst, append_assoc}
+use Rattle.std.proofs.Common.{◌≡◌, ◌⊎◌, inl, inr, List, [], ◌∷◌, ◌++◌, refl, sym, ap, ◌∙◌, subst, append_assoc}
 use Rattle.std.specs.Prelude.{Contains}
 use Rattle.std.specs.Bool.{⊤}
-use Rattle.std.proofs.lemmas.Int.{ints}
 use Rattle.std.proofs.lemmas.List.Elements.{Contains-append_left, Contains-append_right, Contains-append_cases}
 use Rattle.nest_base.specs.declared.places.Point.{Point}
 use Rattle.nest_base.specs.declared.places.Edge.{Edge}
 use Rattle.nest_base.specs.Plane.{HalfEdge, twin, heading}
 use Rattle.nest_base.specs.Order.{IsBefore, IsMarkedBefore}
 use Rattle.nest_base.specs.Routes.{legs}
+use Rattle.nest_base.proofs.Lists.{Contains-head, Contains-cases, Contains-none}
+use Rattle.nest_base.proofs.Walks.{Walk-keeps}
 use Rattle.plate_sides.specs.Sides.{IsHalfEdge, Leaves, IsVertex}
 use Rattle.plate_sides.specs.Links.{Node, Outer, At, along, sight, IsAlong, IsMarkSide, Sees, SeesNone}
 use Rattle.plate_sides.specs.Reach.{Reaches, IsLinkedOver, within, across}
 use Rattle.plate_covers.specs.Odd.{HasDegree}
+use Rattle.loop_route.proofs.Turns.{IsEasterly, east_of_mark}
 use Rattle.loop_plate.specs.Loops.{IsClosedRoute}
 use Rattle.loop_plate.specs.LoopPlan.{IsAloneOnItsLine}
-use Rattle.loop_plate.proofs.Lists.{Chained, Chained-next, Chained-previous, Contains-cut, Contains-head, Contains-cases, Contains-none}
-use Rattle.loop_plate.proofs.Walks.{Walk-keeps}
-use Rattle.loop_plate.proofs.Angles.{IsEastward, both_last}
+use Rattle.loop_plate.proofs.Lists.{Chained, Chained-next, Chained-previous, Contains-cut}
+use Rattle.loop_plate.proofs.Angles.{both_last}
 use Rattle.loop_plate.proofs.HalfEdges.{of_three, ends_differ, twin_is_half_edge}
 use Rattle.loop_plate.proofs.Routes.{closed_legs}
 use Rattle.loop_plate.proofs.Loops.{ends_before, leg_or_twin, side_is_leg, no_leg_twice, leg_is_half_edge}
@@ -86,16 +87,12 @@ module _ {edges : List Edge} {side : HalfEdge} {places : List Point} (r : IsClos
         | inr m ↦ Contains-append_left rest (side ∷ []) t m
       ]
 
-  leads_east : (d : HalfEdge) → Leaves edges side.from d → IsEastward (heading d)
+  leads_east : (d : HalfEdge) → Leaves edges side.from d → IsEasterly (heading d)
   leads_east d ((e, is, of), at) = from (r.mark_first d.to (twin d, (twin_is_half_edge edges d (e, is, of), refl)))
     where
-      of_order : IsMarkedBefore d.from d.to → IsEastward (heading d)
-      of_order (inl less) = inl (omega (arith, ints))
-      of_order (inr (level, down)) = inr (omega (arith, ints, level), omega (arith, ints, down))
-
-      from : (d.to ≡ side.from) ⊎ IsMarkedBefore side.from d.to → IsEastward (heading d)
+      from : (d.to ≡ side.from) ⊎ IsMarkedBefore side.from d.to → IsEasterly (heading d)
       from (inl same) = absurd (ends_differ e d (ends_before r e is) of (same ∙ sym at))
-      from (inr later) = of_order (subst (λ v. IsMarkedBefore v d.to) (sym at) later)
+      from (inr later) = east_of_mark d.from d.to (subst (λ v. IsMarkedBefore v d.to) (sym at) later)
 
   -- only the side is a mark side
   pub only_mark_side : IsAloneOnItsLine edges side → (m : HalfEdge) → IsMarkSide edges m → m ≡ side

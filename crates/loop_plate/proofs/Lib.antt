@@ -1,5 +1,4 @@
 pub mod Lists
-pub mod Walks
 pub mod Selections
 pub mod Angles
 pub mod HalfEdges

@@ -1,87 +1,25 @@
--- Elements of lists, pairs of them, and neighbours.
-use Rattle.std.proofs.Common.{arith, ◌≡◌, ◌≢◌, ℕ, zero, suc, ◌<◌, ◌⊎◌, inl, inr, List, [], ◌∷◌, ◌++◌, length, get_or, swap, refl, sym, ap, ◌∙◌, subst, add-one}
-use Rattle.std.specs.Prelude.{Contains, AllPairs, All, IsPermutation}
+-- Pieces of lists, neighbours, and lists that go together.
+use Rattle.std.proofs.Common.{arith, ◌≡◌, ◌≢◌, zero, suc, ◌<◌, inl, inr, List, [], ◌∷◌, ◌++◌, length, refl, sym, ap, subst, add-one}
+use Rattle.std.specs.Prelude.{Contains, AllPairs}
 use Rattle.std.specs.List.{AllZip, AllAdjacentBelow}
 use Rattle.std.specs.Bool.{⊤}
-use Rattle.std.proofs.lemmas.List.Elements.{All-cons, All-nil}
-use Rattle.std.proofs.lemmas.List.Edits.{length-swap, Swapped, swapped_from_swap}
-use Rattle.std.proofs.lemmas.List.Sorted.{IsPermutation-keeps}
-use Rattle.std.proofs.lemmas.Bool.{cases_eq}
-
-pub Contains-head : {X : Type 0} (x : X) (xs : List X) → Contains (x ∷ xs) x
-Contains-head x xs = (0, omega arith, refl)
-
-pub Contains-later : {X : Type 0} (x y : X) (xs : List X) → Contains xs y → Contains (x ∷ xs) y
-Contains-later x y xs (k, h, e) = (suc k, omega arith, e)
-
-pub Contains-cases : {X : Type 0} (x y : X) (xs : List X) → Contains (x ∷ xs) y → (x ≡ y) ⊎ Contains xs y
-Contains-cases x y xs (zero, h, e) = inl e
-Contains-cases x y xs (suc k, h, e) = inr (k, omega arith, e)
-
-pub Contains-none : {X : Type 0} (y : X) → Contains [] y → ⊥
-Contains-none y (k, h, e) = omega arith
-
--- what holds of all things that stand in a list holds of each of its elements
-pub All-from_contains : {X : Type 0} (P : X → Type 0) (xs : List X) → ((x : X) → Contains xs x → P x) → All P xs
-All-from_contains P [] h = All-nil P
-All-from_contains P (x ∷ xs) h = All-cons P x xs (h x (Contains-head x xs)) (All-from_contains P xs (λ y c. h y (Contains-later x y xs c)))
-
-pub AllPairs-none : {X : Type 0} (R : X → X → Type 0) → AllPairs R []
-AllPairs-none R i j d p q = let below : j < 0 = q in absurd (omega arith)
+use Rattle.nest_base.proofs.Lists.{Contains-head, Contains-later, Contains-cases, Contains-none, AllPairs-to_later, AllPairs-rest}
 
 pub AllPairs-single : {X : Type 0} (R : X → X → Type 0) (x : X) → AllPairs R (x ∷ [])
 AllPairs-single R x i j d p q = let below : j < 1 = q in absurd (omega arith)
-
-pub AllPairs-rest : {X : Type 0} (R : X → X → Type 0) (x : X) (xs : List X) → AllPairs R (x ∷ xs) → AllPairs R xs
-AllPairs-rest R x xs h i j d p q = h (suc i) (suc j) d (omega arith) (omega arith)
-
-pub AllPairs-first : {X : Type 0} (R : X → X → Type 0) (x y : X) (xs : List X) → AllPairs R (x ∷ xs) → Contains xs y → R x y
-AllPairs-first R x y xs h (k, p, e) = subst (R x) e (h 0 (suc k) y (omega arith) (omega arith))
 
 -- of two pieces of a list, each element of the first comes before each of the second
 pub AllPairs-across : {X : Type 0} (R : X → X → Type 0) (xs ys : List X) (x y : X) →
     AllPairs R (xs ++ ys) → Contains xs x → Contains ys y → R x y
 AllPairs-across R [] ys x y h c d = absurd (Contains-none x c)
 AllPairs-across {X} R (z ∷ xs) ys x y h c d = elim (Contains-cases z x xs c) [
-  | inl e ↦ subst (λ w. R w y) e (AllPairs-first R z y (xs ++ ys) h (later xs d))
+  | inl e ↦ subst (λ w. R w y) e (AllPairs-to_later R z y (xs ++ ys) h (later xs d))
   | inr m ↦ AllPairs-across R xs ys x y (AllPairs-rest R z (xs ++ ys) h) m d
 ]
   where
     later : (ws : List X) → Contains ys y → Contains (ws ++ ys) y
     later [] m = m
     later (w ∷ ws) m = Contains-later w y (ws ++ ys) (later ws m)
-
--- elements that are distinct stand at one index each
-one_index : {X : Type 0} (xs : List X) → AllPairs (λ x y. x ≢ y) xs →
-    (i j : ℕ) (d : X) → i < length xs → j < length xs → get_or xs i d ≡ get_or xs j d → i ≡ j
-one_index xs h i j d p q e =
-    let not_below : i < j → ⊥ = λ less. h i j d less q e in
-    let not_above : j < i → ⊥ = λ less. h j i d less p (sym e) in
-    omega arith
-
--- where a swap of a and b took the element at m from
-abbrev IsOrigin : ℕ → ℕ → ℕ → ℕ → Type 0
-IsOrigin a b m k = ((m ≡ a) × (k ≡ b)) ⊎ (((m ≡ b) × (k ≡ a)) ⊎ ((m ≢ a) × (m ≢ b) × (k ≡ m)))
-
-origin : {X : Type 0} (f g : ℕ → X) (a b m : ℕ) → Swapped f g a b →
-    (m ≡ a) ⊎ (m ≢ a) → (m ≡ b) ⊎ (m ≢ b) → (k : ℕ) × IsOrigin a b m k × (g m ≡ f k)
-origin f g a b m s (inl e) y = (b, inl (e, refl), ap g e ∙ s.0)
-origin f g a b m s (inr n) (inl e) = (a, inr (inl (e, refl)), ap g e ∙ s.1)
-origin f g a b m s (inr n) (inr o) = (m, inr (inr (n, o, refl)), s.2 m n o)
-
-distinct-swap : {X : Type 0} (xs : List X) (a b : ℕ) → a < length xs → b < length xs →
-    AllPairs (λ x y. x ≢ y) xs → AllPairs (λ x y. x ≢ y) (swap xs a b)
-distinct-swap xs a b p q h i j d less within e =
-    let len = length-swap xs a b in
-    let s = swapped_from_swap xs (swap xs a b) a b d p q refl in
-    let x = origin _ _ a b i s (cases_eq i a) (cases_eq i b) in
-    let y = origin _ _ a b j s (cases_eq j a) (cases_eq j b) in
-    let same = one_index xs h x.0 y.0 d (omega (arith, x.1)) (omega (arith, y.1)) (sym x.2 ∙ e ∙ y.2) in
-    omega (arith, x.1, y.1)
-
--- distinct elements stay distinct in another order
-pub distinct-permutation : {X : Type 0} (xs ys : List X) → IsPermutation xs ys → AllPairs (λ x y. x ≢ y) xs → AllPairs (λ x y. x ≢ y) ys
-distinct-permutation xs ys moved h = IsPermutation-keeps xs (AllPairs (λ x y. x ≢ y)) h distinct-swap ys moved
 
 -- each element and the next are in R
 abbrev pub Chained : {X : Type 0} → (X → X → Type 0) → List X → Type 0
@@ -106,7 +44,7 @@ Chained-distinct : {X : Type 0} (x : X) (xs : List X) (y : X) → AllPairs (λ a
     ((z : X) → Contains (x ∷ xs) z → z ≢ y) → Chained (λ a b. a ≢ b) ((x ∷ xs) ++ y ∷ [])
 Chained-distinct x [] y h none = (none x (Contains-head x []), tt)
 Chained-distinct x (z ∷ xs) y h none = (
-  AllPairs-first (λ a b. a ≢ b) x z (z ∷ xs) h (Contains-head z xs),
+  AllPairs-to_later (λ a b. a ≢ b) x z (z ∷ xs) h (Contains-head z xs),
   Chained-distinct z xs y (AllPairs-rest (λ a b. a ≢ b) x (z ∷ xs) h) (λ w c. none w (Contains-later x w (z ∷ xs) c)),
 )
 
@@ -114,8 +52,8 @@ Chained-distinct x (z ∷ xs) y h none = (
 pub Chained-round : {X : Type 0} (x z : X) (xs : List X) → AllPairs (λ a b. a ≢ b) (x ∷ z ∷ xs) →
     Chained (λ a b. a ≢ b) ((x ∷ z ∷ xs) ++ x ∷ [])
 Chained-round x z xs h = (
-  AllPairs-first (λ a b. a ≢ b) x z (z ∷ xs) h (Contains-head z xs),
-  Chained-distinct z xs x (AllPairs-rest (λ a b. a ≢ b) x (z ∷ xs) h) (λ w c e. AllPairs-first (λ a b. a ≢ b) x w (z ∷ xs) h c (sym e)),
+  AllPairs-to_later (λ a b. a ≢ b) x z (z ∷ xs) h (Contains-head z xs),
+  Chained-distinct z xs x (AllPairs-rest (λ a b. a ≢ b) x (z ∷ xs) h) (λ w c e. AllPairs-to_later (λ a b. a ≢ b) x w (z ∷ xs) h c (sym e)),
 )
 
 -- where the second of two lists that go together is cut in two, so is the first
@@ -126,13 +64,6 @@ AllZip-cut R [] (y ∷ ys) zs h = absurd h
 AllZip-cut R (x ∷ xs) (y ∷ ys) zs h =
     let r = AllZip-cut R xs ys zs h.1 in
     (x ∷ r.0, r.1, ap (λ l. x ∷ l) r.2, (h.0, r.3), r.4)
-
-pub AllZip-append : {X Y : Type 0} (R : X → Y → Type 0) (xs us : List X) (ys vs : List Y) →
-    AllZip R xs ys → AllZip R us vs → AllZip R (xs ++ us) (ys ++ vs)
-AllZip-append R [] us [] vs h k = k
-AllZip-append R [] us (y ∷ ys) vs h k = absurd h
-AllZip-append R (x ∷ xs) us [] vs h k = absurd h
-AllZip-append R (x ∷ xs) us (y ∷ ys) vs h k = (h.0, AllZip-append R xs us ys vs h.1 k)
 
 -- an element of the second list goes with one of the first
 pub AllZip-first_of : {X Y : Type 0} (R : X → Y → Type 0) (xs : List X) (ys : List Y) (y : Y) →

@@ -9,11 +9,14 @@ use Rattle.nest_base.specs.declared.places.Edge.{Edge}
 use Rattle.nest_base.specs.Plane.{HalfEdge, twin}
 use Rattle.nest_base.specs.Order.{IsBefore}
 use Rattle.nest_base.specs.Routes.{legs}
+use Rattle.nest_base.proofs.Lists.{Contains-head}
+use Rattle.nest_base.proofs.Pairs.{AllPairs-permutation}
 use Rattle.plate_sides.specs.Sides.{IsHalfEdgeOf, IsHalfEdge}
 use Rattle.plate_sides.specs.Reach.{HasEdge}
+use Rattle.plate_sides.proofs.HalfEdges.{one_edge}
 use Rattle.loop_plate.specs.Loops.{IsClosedRoute}
-use Rattle.loop_plate.proofs.Lists.{distinct-permutation, AllZip-first_of, AllZip-second_of, AllZip-cut, AllPairs-across, Contains-head}
-use Rattle.loop_plate.proofs.HalfEdges.{one_edge, same_or_twin, twin_is_half_edge_of}
+use Rattle.loop_plate.proofs.Lists.{AllZip-first_of, AllZip-second_of, AllZip-cut, AllPairs-across}
+use Rattle.loop_plate.proofs.HalfEdges.{same_or_twin, twin_is_half_edge_of}
 use Rattle.loop_plate.proofs.Routes.{closed_legs}
 
 module _ {edges : List Edge} {side : HalfEdge} {places : List Point} (r : IsClosedRoute edges side places) where
@@ -21,7 +24,7 @@ module _ {edges : List Edge} {side : HalfEdge} {places : List Point} (r : IsClos
   ends_before e c = All-contains (λ (e : Edge). IsBefore e.low e.high) edges e r.ends_in_order c
 
   pub order_is_distinct : AllPairs (λ e f. e ≢ f) r.order
-  order_is_distinct = distinct-permutation edges r.order r.same_edges r.no_edge_twice
+  order_is_distinct = AllPairs-permutation (λ e f. e ≢ f) (λ e f differ same. differ (sym same)) edges r.order r.same_edges r.no_edge_twice
 
   pub in_order : (e : Edge) → Contains edges e → Contains r.order e
   in_order e c = Contains-permutation edges r.order e r.same_edges c

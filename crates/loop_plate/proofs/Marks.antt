@@ -7,15 +7,16 @@ use Rattle.nest_base.specs.Plane.{HalfEdge, twin}
 use Rattle.nest_base.specs.Order.{IsMarkedBefore}
 use Rattle.nest_base.specs.Walks.{here, on, against}
 use Rattle.nest_base.specs.Routes.{legs}
+use Rattle.nest_base.proofs.Lists.{Contains-head, Contains-cases, Contains-none}
+use Rattle.nest_base.proofs.Walks.{Walk-back}
 use Rattle.plate_sides.specs.Sides.{IsHalfEdge, IsVertex}
 use Rattle.plate_sides.specs.Components.{SameComponent, IsMark, IsIn, AreMarks}
 use Rattle.plate_sides.specs.Links.{IsAlong, IsMarkSide}
 use Rattle.loop_plate.specs.Loops.{IsClosedRoute}
-use Rattle.loop_plate.proofs.Lists.{AllPairs-single, Contains-head, Contains-cases, Contains-none}
+use Rattle.loop_plate.proofs.Lists.{AllPairs-single}
 use Rattle.loop_plate.proofs.HalfEdges.{twin_is_half_edge, IsMarkedBefore-asym}
 use Rattle.loop_plate.proofs.Loops.{leg_is_half_edge, side_is_leg, leg_or_twin}
 use Rattle.loop_plate.proofs.Alongs.{each_leg}
-use Rattle.loop_plate.proofs.Walks.{Walk-back}
 
 -- what edges join to a vertex is a vertex
 pub joined_is_vertex : (edges : List Edge) {mark v : Point} → IsVertex edges mark → SameComponent edges v mark → IsVertex edges v

@@ -7,13 +7,13 @@ use Rattle.nest_base.specs.declared.places.Edge.{Edge}
 use Rattle.nest_base.specs.Plane.{HalfEdge, twin}
 use Rattle.nest_base.specs.Walks.{Walk, here, on, against}
 use Rattle.nest_base.specs.Routes.{legs}
+use Rattle.nest_base.proofs.Lists.{Contains-head}
+use Rattle.nest_base.proofs.Walks.{Walk-then, Walk-map}
 use Rattle.plate_sides.specs.Sides.{IsHalfEdge}
 use Rattle.plate_sides.specs.Links.{Outer, At, along, sight, IsAlong, SeesNone, Sees, IsOuterSide}
 use Rattle.plate_sides.specs.Reach.{Reaches, HasEdge, within, across}
 use Rattle.plate_sides.specs.Enclosing.{IsOrderEnclosing}
 use Rattle.loop_plate.specs.Loops.{IsClosedRoute}
-use Rattle.loop_plate.proofs.Lists.{Contains-head}
-use Rattle.loop_plate.proofs.Walks.{Walk-then, Walk-map}
 use Rattle.loop_plate.proofs.HalfEdges.{twin_is_half_edge, HasEdge-twin}
 use Rattle.loop_plate.proofs.Loops.{leg_is_half_edge, leg_or_twin, no_leg_twice}
 use Rattle.loop_plate.proofs.Alongs.{each_leg}

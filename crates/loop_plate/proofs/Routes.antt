@@ -1,5 +1,6 @@
 -- The legs of a route that comes back to where it began.
 use Rattle.std.proofs.Common.{arith, ◌≡◌, suc, ◌-◌, List, [], ◌∷◌, ◌++◌, length, Some, slice_get, refl, sym, ◌∙◌}
+use Rattle.std.proofs.lemmas.Option.{same_Some}
 use Rattle.nest_base.specs.declared.places.Point.{Point}
 use Rattle.nest_base.specs.Plane.{HalfEdge}
 use Rattle.nest_base.specs.Routes.{legs}
@@ -17,14 +18,11 @@ last_place p q places =
     let shorter : length (q ∷ places) - 1 ≡ length places = omega arith in
     rw (longer, shorter) refl
 
-same_place : {a b : Point} → Some a ≡ Some b → a ≡ b
-same_place e = cc
-
 -- the legs of a route that ends where `side` begins, and `side` after them, follow each other
 pub legs_meet : (side : HalfEdge) (p q : Point) (places : List Point) →
     slice_get (p ∷ q ∷ places) (length (p ∷ q ∷ places) - 1) ≡ Some side.from →
     Chained Meets (legs (p ∷ q ∷ places) ++ side ∷ [])
-legs_meet side p q [] e = (same_place e, tt)
+legs_meet side p q [] e = (same_Some _ _ e, tt)
 legs_meet side p q (r ∷ places) e = (refl, legs_meet side q r places (sym (last_place p q (r ∷ places)) ∙ e))
 
 -- the same by what the record of a route says; its legs begin with `side`

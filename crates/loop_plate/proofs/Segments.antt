@@ -1,5 +1,5 @@
 -- The route round segments that are one loop is a closed route over their edges.
-use Rattle.std.proofs.Common.{◌≡◌, ◌≢◌, List, ◌++◌, length, map, get_or, sym, ap, subst, ◌∙◌, codes, decimal}
+use Rattle.std.proofs.Common.{◌≡◌, ◌≢◌, List, length, map, get_or, sym, subst, ◌∙◌}
 use Rattle.std.specs.Prelude.{Contains, AllPairs, IsPermutation}
 use Rattle.std.proofs.lemmas.List.{length-map}
 use Rattle.std.proofs.lemmas.List.Sorted.{Contains-permutation, IsPermutation-sym, IsPermutation-trans, IsPermutation-map, length_permutation, sum_by-IsPermutation}
@@ -9,6 +9,7 @@ use Rattle.nest_base.specs.declared.places.Edge.{Edge}
 use Rattle.nest_base.specs.Plane.{HalfEdge}
 use Rattle.nest_base.specs.HalfEdges.{IsHalfEdge as IsHalfEdgeOfSegments}
 use Rattle.nest_base.specs.Order.{IsBefore}
+use Rattle.nest_base.proofs.Lists.{All-from_contains}
 use Rattle.plate_edges.specs.Edges.{AreEdgesOf, IsEdgeBefore, edge_of}
 use Rattle.plate_edges.proofs.Lists.{origin_in}
 use Rattle.plate_edges.proofs.Orders.{IsEdgeBefore-asym}
@@ -20,9 +21,7 @@ use Rattle.loop_route.specs.Loops.{IsOneLoop, IsRoute}
 use Rattle.loop_route.proofs.Degrees.{one_at, one_at_cases, degree_pos, end_from_degree}
 use Rattle.loop_route.proofs.HalfEdges.{from_is_end}
 use Rattle.loop_plate.specs.Loops.{IsClosedRoute}
-use Rattle.loop_plate.specs.LoopReport.{loop_report}
-use Rattle.loop_plate.specs.Segments.{GoesRoundEdges, LoopIsClosedRoute}
-use Rattle.loop_plate.proofs.Lists.{All-from_contains}
+use Rattle.loop_plate.specs.Segments.{LoopIsClosedRoute}
 use Rattle.loop_plate.proofs.Degrees.{HasDegree-by_sum}
 use Rattle.loop_plate.proofs.Ends.{half_edge_of_segment, edges_in_step, ends_at, ends_of_edges}
 
@@ -91,10 +90,3 @@ loop_is_closed_route segments places loop route =
       as_many = as_many segments own.0 own.1 own.2;
       closed = closed segments own.0 own.1 own.2 loop route;
     }
-
--- the report on the loop counts its segments
-pub report_on_segments : {segments : List Segment} {side : HalfEdge} {places : List Point} (round : GoesRoundEdges segments side places) →
-    loop_report round.edges ≡ codes "component 1 edges " ++ decimal (length segments) ++
-    codes " odd 0 bound 1 limit 1 pierces 1\ntotal pierces 1 bound 1\nfewest\n"
-report_on_segments round =
-    ap (λ n. codes "component 1 edges " ++ decimal n ++ codes " odd 0 bound 1 limit 1 pierces 1\ntotal pierces 1 bound 1\nfewest\n") round.as_many

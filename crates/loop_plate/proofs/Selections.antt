@@ -2,7 +2,7 @@
 use Rattle.std.proofs.Common.{arith, ◌≡◌, ℕ, ◌⊎◌, inl, inr, List, [], ◌∷◌, length, refl, sym, ap, ◌∙◌, subst}
 use Rattle.std.specs.Prelude.{Contains}
 use Rattle.nest_base.specs.Selection.{Selects, none, taken, passed, HasCount}
-use Rattle.loop_plate.proofs.Lists.{Contains-head, Contains-later, Contains-cases, Contains-none}
+use Rattle.nest_base.proofs.Lists.{Contains-head, Contains-later, Contains-cases, Contains-none}
 
 -- what is selected is determined
 pub same_selection : {X : Type 0} (P : X → Type 0) {xs ys zs : List X} → Selects P xs ys → Selects P xs zs → ys ≡ zs

@@ -10,12 +10,13 @@ use Rattle.nest_base.specs.Plane.{HalfEdge, twin, heading, cross_product}
 use Rattle.nest_base.specs.Order.{IsBefore, IsMarkedBefore}
 use Rattle.nest_base.specs.Turn.{IsInsideAngle, below_half, above_half, half, whole, west}
 use Rattle.nest_base.specs.Selection.{none, taken, passed}
+use Rattle.nest_base.proofs.Lists.{Contains-cases, Contains-none}
 use Rattle.plate_sides.specs.Sides.{forth, IsHalfEdge, IsVertex, Leaves}
 use Rattle.plate_covers.specs.Odd.{HasDegree}
 use Rattle.loop_plate.specs.Loops.{IsClosedRoute}
 use Rattle.loop_plate.specs.LoopPlan.{IsAloneOnItsLine}
 use Rattle.loop_plate.specs.Square.{southwest, southeast, northeast, northwest, edge, square, top, square_route}
-use Rattle.loop_plate.proofs.Lists.{Contains-cases, Contains-none, AllPairs-single}
+use Rattle.loop_plate.proofs.Lists.{AllPairs-single}
 
 x_of : {p q : Point} → p ≡ q → p.x ≡ q.x
 x_of e = ap (λ (p : Point). p.x) e

@@ -1,5 +1,5 @@
 -- How many ends of segments lie at a place.
-use Rattle.std.proofs.Common.{arith, ◌≡◌, ◌≢◌, ◌⊎◌, inl, inr, ⊎_elim, ℕ, zero, ◌+◌, ◌<◌, Bool, true, false, cond, ℤ, List, [], ◌∷◌, ◌++◌, length, Contains, All, IsPermutation, get_or, take, ap, subst, ◌∙◌, sym, refl}
+use Rattle.std.proofs.Common.{arith, ◌≡◌, ◌≢◌, ◌⊎◌, inl, inr, ⊎_elim, ℕ, zero, ◌+◌, ◌<◌, Bool, true, false, cond, List, [], ◌∷◌, ◌++◌, length, Contains, All, IsPermutation, get_or, take, ap, subst, ◌∙◌, sym, refl}
 use Rattle.std.specs.Prelude.{count_by}
 use Rattle.std.specs.Bool.{Decides}
 use Rattle.std.specs.List.{sum_by}
@@ -8,22 +8,18 @@ use Rattle.std.proofs.lemmas.Bool.Decides.{Decides-int_eq, Decides-and, Decides-
 use Rattle.std.proofs.lemmas.List.Elements.{All-head, All-tail, All-nil, All-cons}
 use Rattle.std.proofs.lemmas.List.Sums.{sum_by-cons, sum_by_more}
 use Rattle.std.proofs.lemmas.List.Sorted.{sum_by-IsPermutation}
-use Rattle.loop_route.proofs.Members.{Contains-nil, Contains-cons_cases, Contains-head, Contains-later}
 use Rattle.nest_base.specs.declared.places.Point.{Point}
 use Rattle.nest_base.specs.declared.places.Segment.{Segment}
+use Rattle.nest_base.proofs.Lists.{Contains-head, Contains-later, Contains-cases, Contains-none}
+use Rattle.nest_base.proofs.Points.{same_place}
 use Rattle.loop_route.specs.Ends.{ends_of, is_place, degree}
 
 -- 1 where q is the place v, else 0
 unfoldable pub one_at : Point → Point → ℕ
 one_at v q = cond (is_place v q) 1 0
 
-place_from_parts : (v q : Point) → (v.x ≡ q.x) × (v.y ≡ q.y) → v ≡ q
-place_from_parts v q same =
-    let place : ℤ → ℤ → Point = λ x y. record { x = x; y = y } in
-    ap (λ x. place x v.y) same.0 ∙ ap (λ y. place q.x y) same.1
-
 pub Decides-is_place : (v q : Point) → Decides (is_place v q) (v ≡ q)
-Decides-is_place v q = Decides-like (is_place v q) (place_from_parts v q) (λ e. (ap (λ (p : Point). p.x) e, ap (λ (p : Point). p.y) e)) (Decides-and (int_eq v.x q.x) (int_eq v.y q.y) (Decides-int_eq v.x q.x) (Decides-int_eq v.y q.y))
+Decides-is_place v q = Decides-like (is_place v q) (λ same. same_place same.0 same.1) (λ e. (ap (λ (p : Point). p.x) e, ap (λ (p : Point). p.y) e)) (Decides-and (int_eq v.x q.x) (int_eq v.y q.y) (Decides-int_eq v.x q.x) (Decides-int_eq v.y q.y))
 
 one_at_by : (v q : Point) (b : Bool) → is_place v q ≡ b → ((v ≡ q) × (one_at v q ≡ 1)) ⊎ ((v ≢ q) × (one_at v q ≡ 0))
 unfolding one_at
@@ -89,17 +85,17 @@ degree-none (s ∷ segments) v none =
 
 -- an end that is there counts
 count_pos : (places : List Point) (v : Point) → Contains places v → zero < count_by (is_place v) places
-count_pos [] v among = absurd (Contains-nil v among)
+count_pos [] v among = absurd (Contains-none v among)
 count_pos (q ∷ places) v among = ⊎_elim
     (λ first. omega (arith, count-cons v q places, one_at-is v q (sym first)))
     (λ later. omega (arith, count-cons v q places, count_pos places v later))
-    (Contains-cons_cases q places v among)
+    (Contains-cases q v places among)
 
 count_found : (places : List Point) (v : Point) → zero < count_by (is_place v) places → Contains places v
 count_found [] v some = absurd (omega arith)
 count_found (q ∷ places) v some = ⊎_elim
     (λ same. subst (λ p. Contains (q ∷ places) p) (sym same.0) (Contains-head q places))
-    (λ other. Contains-later q places v (count_found places v (omega (arith, count-cons v q places, other.1))))
+    (λ other. Contains-later q v places (count_found places v (omega (arith, count-cons v q places, other.1))))
     (one_at_cases v q)
 
 -- v is an end exactly where its degree is positive
@@ -111,11 +107,11 @@ end_from_degree segments v = count_found (ends_of segments) v
 
 -- both ends of a segment of the list have a positive degree
 pub degree_pos : (segments : List Segment) (s : Segment) (v : Point) → Contains segments s → (v ≡ s.a) ⊎ (v ≡ s.b) → zero < degree segments v
-degree_pos [] s v among end = absurd (Contains-nil s among)
+degree_pos [] s v among end = absurd (Contains-none s among)
 degree_pos (t ∷ segments) s v among end = ⊎_elim
     (λ first. omega (arith, degree-cons t segments v, end_counts v t (subst (λ (x : Segment). (v ≡ x.a) ⊎ (v ≡ x.b)) (sym first) end)))
     (λ later. omega (arith, degree-cons t segments v, degree_pos segments s v later end))
-    (Contains-cons_cases t segments s among)
+    (Contains-cases t s segments among)
 
 -- one segment more, with no end at v
 pub degree-none_more : (segments : List Segment) (i : ℕ) (v : Point) (d : Segment) → i < length segments → degree (take i segments) v ≡ 0 → (get_or segments i d).a ≢ v → (get_or segments i d).b ≢ v → degree (take (i + 1) segments) v ≡ 0

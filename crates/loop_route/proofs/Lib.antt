@@ -1,7 +1,5 @@
-pub mod Members
 pub mod Degrees
 pub mod HalfEdges
-pub mod Joins
 pub mod Turns
 mod Trails
 mod OneLoop

@@ -3,12 +3,12 @@ use Rattle.std.proofs.Common.{arith, ◌≡◌, ◌⊎◌, inl, inr, ⊎_elim, �
 use Rattle.std.proofs.lemmas.Int.{ints}
 use Rattle.std.proofs.lemmas.List.{take_more}
 use Rattle.std.proofs.lemmas.List.Elements.{Contains-append_cases, Contains-get_or}
-use Rattle.loop_route.proofs.Members.{Contains-nil, Contains-cons_cases}
 use Rattle.loop_route.proofs.Degrees.{degree_pos, end_from_degree}
 use Rattle.nest_base.specs.declared.places.Point.{Point}
 use Rattle.nest_base.specs.declared.places.Segment.{Segment}
 use Rattle.loop_route.specs.Ends.{ends_of}
 use Rattle.nest_base.specs.Order.{IsMarkedBefore}
+use Rattle.nest_base.proofs.Lists.{Contains-cases, Contains-none}
 
 -- p is v, or comes before it
 abbrev pub IsNotAfter : Point → Point → Type 0
@@ -41,7 +41,7 @@ last_ends segments i v d within among =
     let ends = ap ends_of (take_more segments i d within) ∙ ends_of-append (take i segments) (s ∷ []) in
     ⊎_elim
     (λ before. inl before)
-    (λ last. ⊎_elim (λ a. inr (inl a)) (λ later. ⊎_elim (λ b. inr (inr b)) (λ none. absurd (Contains-nil v none)) (Contains-cons_cases s.b [] v later)) (Contains-cons_cases s.a (s.b ∷ []) v last))
+    (λ last. ⊎_elim (λ a. inr (inl a)) (λ later. ⊎_elim (λ b. inr (inr b)) (λ none. absurd (Contains-none v none)) (Contains-cases s.b v [] later)) (Contains-cases s.a v (s.b ∷ []) last))
     (Contains-append_cases (ends_of (take i segments)) (s.a ∷ s.b ∷ []) v (subst (λ l. Contains l v) ends among))
 
 -- one segment more

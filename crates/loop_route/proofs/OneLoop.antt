@@ -11,15 +11,15 @@ use Rattle.nest_base.specs.Plane.{HalfEdge}
 use Rattle.nest_base.specs.Walks.{Walk}
 use Rattle.nest_base.specs.Walks.Walk.{here, on, against}
 use Rattle.nest_base.specs.HalfEdges.{IsHalfEdgeOf}
+use Rattle.nest_base.proofs.Lists.{Contains-head, last_of}
+use Rattle.nest_base.proofs.Walks.{Walk-then, Walk-back}
 use Rattle.loop_route.specs.Ends.{ends_of, degree, IsJoinedTo, half_edge}
 use Rattle.nest_base.specs.Routes.{legs}
 use Rattle.loop_route.specs.Loops.{IsOneLoop}
 use Rattle.loop_route.specs.Trails.{IsTrail}
-use Rattle.loop_route.proofs.Members.{Contains-head}
 use Rattle.loop_route.proofs.Degrees.{one_at, one_at_cases, one_at-same, one_at-other, degree-append, degree-IsPermutation, degree_pos, degree_from_end, end_from_degree}
 use Rattle.loop_route.proofs.HalfEdges.{from_is_end, to_is_end}
-use Rattle.loop_route.proofs.Trails.{last_of, last_is, balance, leads_on}
-use Rattle.loop_route.proofs.Joins.{walk_further, walk_back}
+use Rattle.loop_route.proofs.Trails.{last_is, balance, leads_on}
 
 -- the places of a trail are its first one and those after it, of which the last is its last
 shape : (mark to last : Point) (places : List Point) → slice_get (legs places) 0 ≡ Some (half_edge mark to) → slice_get places (length places - 1) ≡ Some last →
@@ -104,7 +104,7 @@ module _ (segments : List Segment) (mark : Point) (places : List Point) (last : 
 
   -- and so to each other
   pub joins : rest ≡ [] → (u v : Point) → Contains (ends_of segments) u → Contains (ends_of segments) v → Walk (IsJoinedTo segments) v u
-  joins none u v u_end v_end = walk_further (to_last none u u_end) (walk_back (to_last none v v_end))
+  joins none u v u_end v_end = Walk-then (to_last none u u_end) (Walk-back (to_last none v v_end))
 
   -- a trail that is short of the beginning, or leaves a segment out
   by_rest : IsOneLoop segments → degree rest last ≡ 0 → (left : List Segment) → left ≡ rest → ((last ≡ mark) × (rest ≡ []) → ⊥) → (last ≡ mark) ⊎ (last ≢ mark) → ⊥

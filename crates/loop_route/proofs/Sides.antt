@@ -12,14 +12,13 @@ use Rattle.nest_base.specs.Turn.{IsInsideAngle, west}
 use Rattle.loop_route.specs.declared.ends.Leg.{Leg}
 use Rattle.nest_base.specs.HalfEdges.{IsHalfEdgeOf, IsHalfEdge}
 use Rattle.loop_route.specs.Ends.{ends_of, half_edge}
-use Rattle.nest_base.specs.Order.{IsMarkedBefore}
+use Rattle.nest_base.proofs.Directions.{cross_product-self}
+use Rattle.nest_base.proofs.Lists.{Contains-head, Contains-later, Contains-cases, Contains-none}
 use Rattle.loop_route.specs.Marks.{IsMark, IsMarkSide, TurnsLeftAt}
 use Rattle.loop_route.specs.Trails.{IsFollowedAt}
-use Rattle.loop_route.proofs.Members.{Contains-nil, Contains-cons_cases, Contains-head, Contains-later}
 use Rattle.loop_route.proofs.Degrees.{degree_pos, end_from_degree}
 use Rattle.loop_route.proofs.HalfEdges.{to_is_end}
-use Rattle.loop_route.proofs.Turns.{IsEasterly, not_left_of_later, not_before_west}
-use Rattle.loop_route.proofs.Turns.IsEasterly.{east, south}
+use Rattle.loop_route.proofs.Turns.{IsEasterly, east_of_mark, not_left_of_later, not_before_west}
 
 -- a segment that is not a point has one half-edge from v at most
 one_way : (s : Segment) (v p q : Point) → s.a ≢ s.b → IsHalfEdgeOf s (half_edge v p) → IsHalfEdgeOf s (half_edge v q) → p ≡ q
@@ -39,17 +38,17 @@ no_leg s v to not_a not_b (inl e) = not_a (sym (ap (λ (h : HalfEdge). h.from) e
 no_leg s v to not_a not_b (inr e) = not_b (sym (ap (λ (h : HalfEdge). h.from) e))
 
 leg_later : (s : Segment) (segments : List Segment) (v : Point) → (to : Point) × IsHalfEdge segments (half_edge v to) → (to : Point) × IsHalfEdge (s ∷ segments) (half_edge v to)
-leg_later s segments v (to, (t, among, half)) = (to, (t, Contains-later s segments t among, half))
+leg_later s segments v (to, (t, among, half)) = (to, (t, Contains-later s t segments among, half))
 
 -- an end begins a half-edge
 leg_at : (segments : List Segment) (v : Point) → Contains (ends_of segments) v → (to : Point) × IsHalfEdge segments (half_edge v to)
-leg_at [] v among = absurd (Contains-nil v among)
+leg_at [] v among = absurd (Contains-none v among)
 leg_at (s ∷ segments) v among =
     let at_b : Contains (s.b ∷ ends_of segments) v → (to : Point) × IsHalfEdge (s ∷ segments) (half_edge v to) = λ later. ⊎_elim
     (λ b. (s.a, (s, Contains-head s segments, inr (ap (λ p. half_edge p s.a) (sym b)))))
     (λ rest. leg_later s segments v (leg_at segments v rest))
-    (Contains-cons_cases s.b (ends_of segments) v later) in
-    ⊎_elim (λ a. (s.b, (s, Contains-head s segments, inl (ap (λ p. half_edge p s.b) (sym a))))) at_b (Contains-cons_cases s.a (s.b ∷ ends_of segments) v among)
+    (Contains-cases s.b v (ends_of segments) later) in
+    ⊎_elim (λ a. (s.b, (s, Contains-head s segments, inl (ap (λ p. half_edge p s.b) (sym a))))) at_b (Contains-cases s.a v (s.b ∷ ends_of segments) among)
 
 -- a half-edge leads to an end
 to_end : (segments : List Segment) (h : HalfEdge) → IsHalfEdge segments h → Contains (ends_of segments) h.to
@@ -72,12 +71,7 @@ seen_half_edge : (segments : List Segment) (i : ℕ) (h : HalfEdge) → IsHalfEd
 seen_half_edge segments i h (s, among, half) =
     (s, subst (λ l. Contains l s) (take-append-drop i segments) (Contains-append_left (take i segments) (drop i segments) s among), half)
 
--- one heads east, or straight south, from the mark vertex to what it comes before
-east_of_mark : (mark to : Point) → IsMarkedBefore mark to → IsEasterly (direction mark to)
-east_of_mark mark to (inl is_east) = east (omega (arith, ints))
-east_of_mark mark to (inr is_south) = south (omega (arith, ints, is_south.0)) (omega (arith, ints, is_south.1))
-
--- so do all half-edges there
+-- all half-edges at the mark vertex head east, or straight south
 heads_east : (segments : List Segment) (mark to : Point) → IsMark segments mark → All (λ (s : Segment). s.a ≢ s.b) segments → IsHalfEdge segments (half_edge mark to) → IsEasterly (direction mark to)
 heads_east segments mark to is_mark long leg = ⊎_elim
     (λ same. absurd (All-contains (λ (s : Segment). s.a ≢ s.b) segments leg.0 long leg.1 (point_like leg.0 mark (subst (λ v. IsHalfEdgeOf leg.0 (half_edge mark v)) same leg.2))))
@@ -93,9 +87,6 @@ pub record IsLastOf (segments seen : List Segment) (mark : Point) (leg : Leg) : 
 abbrev pub IsBestOf : List Segment → List Segment → Point → Option Leg → Type 0
 IsBestOf segments seen mark None = (to : Point) → IsHalfEdge seen (half_edge mark to) → ⊥
 IsBestOf segments seen mark (Some leg) = IsLastOf segments seen mark leg
-
-cross-self : (d : Point) → cross_product d d ≡ pos 0
-cross-self d = omega (arith, ints)
 
 module _ (segments : List Segment) (mark : Point) (is_mark : IsMark segments mark) (long : All (λ (s : Segment). s.a ≢ s.b) segments) where
   -- the segment at i has no end at the mark vertex
@@ -119,7 +110,7 @@ module _ (segments : List Segment) (mark : Point) (is_mark : IsMark segments mar
 
   new_last : (i : ℕ) (d : Segment) (to : Point) → i < length segments → IsHalfEdgeOf (get_or segments i d) (half_edge mark to) →
       ((q : Point) → IsHalfEdge (take i segments) (half_edge mark q) → cross_product (direction mark to) (direction mark q) ≤ℤ pos 0) → IsLastOf segments (take (i + 1) segments) mark (record { index = i; to = to })
-  new_last i d to within half before = last_more i d to (record { index = i; to = to }) within half (get_or segments i d, slice_get-get_or segments i d within, half) before (omega (arith, ints, cross-self (direction mark to)))
+  new_last i d to within half before = last_more i d to (record { index = i; to = to }) within half (get_or segments i d, slice_get-get_or segments i d within, half) before (omega (arith, ints, cross_product-self (direction mark to)))
 
   -- the segment at i leads to `to`, and the later of it and the best is taken
   pub best_with : (i : ℕ) (d : Segment) (best : Option Leg) (to : Point) (taken : Leg) → i < length segments → IsHalfEdgeOf (get_or segments i d) (half_edge mark to) → (best ≡ None → taken ≡ record { index = i; to = to }) →

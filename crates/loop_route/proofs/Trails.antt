@@ -9,18 +9,13 @@ use Rattle.nest_base.specs.Plane.{HalfEdge}
 use Rattle.nest_base.specs.Walks.{Walk}
 use Rattle.nest_base.specs.Walks.Walk.{here, on}
 use Rattle.nest_base.specs.HalfEdges.{IsHalfEdgeOf}
+use Rattle.nest_base.proofs.Lists.{Contains-head, Contains-later, AllZip-append, last_of}
 use Rattle.loop_route.specs.Ends.{degree, IsJoinedTo, half_edge}
 use Rattle.loop_route.specs.Marks.{IsMarkSide}
 use Rattle.nest_base.specs.Routes.{legs}
 use Rattle.loop_route.specs.Trails.{IsFollowedAt, IsTrail}
-use Rattle.loop_route.proofs.Members.{Contains-head, Contains-later}
 use Rattle.loop_route.proofs.Degrees.{one_at, one_at_cases, degree-cons}
 use Rattle.loop_route.proofs.HalfEdges.{half_edge_ends}
-
--- the last of a place and those after it
-abbrev pub last_of : Point → List Point → Point
-last_of p [] = p
-last_of p (q ∷ places) = last_of q places
 
 last_at : (p : Point) (places : List Point) → slice_get (p ∷ places) (length places) ≡ Some (last_of p places)
 last_at p [] = refl
@@ -56,7 +51,7 @@ leads_on segments p [] (s ∷ order) each among x end = absurd each
 leads_on segments p (q ∷ places) [] each among x end = absurd each
 leads_on segments p (q ∷ places) (s ∷ order) each among x end =
     let goes : Point → Type 0 = λ y. Walk (IsJoinedTo segments) (last_of q places) y in
-    let further : (y : Point) → (y ≡ q) ⊎ (zero < degree order y) → goes y = leads_on segments q places order each.1 (λ t later. among t (Contains-later s order t later)) in
+    let further : (y : Point) → (y ≡ q) ⊎ (zero < degree order y) → goes y = leads_on segments q places order each.1 (λ t later. among t (Contains-later s t order later)) in
     let first : goes p = on (s, among s (Contains-head s order), each.0) (further q (inl refl)) in
     let from_p : x ≡ p → goes x = λ same. subst goes (sym same) first in
     ⊎_elim from_p (λ some. ⊎_elim from_p (further x) (end_cases s order p q x each.0 some)) end
@@ -96,19 +91,13 @@ ends_later : (places : List Point) (q : Point) (h : HalfEdge) → slice_get (leg
 ends_later [] q h begins = absurd (none-some h begins)
 ends_later (p ∷ places) q h begins = last_is p (places ++ q ∷ []) ∙ ap (λ v. Some v) (last_of-push p places q)
 
-each_push : (order : List Segment) (steps : List HalfEdge) (s : Segment) (h : HalfEdge) → AllZip IsHalfEdgeOf order steps → IsHalfEdgeOf s h → AllZip IsHalfEdgeOf (order ++ s ∷ []) (steps ++ h ∷ [])
-each_push [] [] s h each half = (half, tt)
-each_push [] (g ∷ steps) s h each half = absurd each
-each_push (t ∷ order) [] s h each half = absurd each
-each_push (t ∷ order) (g ∷ steps) s h each half = (each.0, each_push order steps s h each.1 half)
-
 each_more : (places : List Point) (last q : Point) (h : HalfEdge) (order : List Segment) (s : Segment) → slice_get (legs places) 0 ≡ Some h → slice_get places (length places - 1) ≡ Some last →
     AllZip IsHalfEdgeOf order (legs places) → IsHalfEdgeOf s (half_edge last q) → AllZip IsHalfEdgeOf (order ++ s ∷ []) (legs (places ++ q ∷ []))
 each_more [] last q h order s begins ends each half = absurd (none-some h begins)
 each_more (p ∷ places) last q h order s begins ends each half =
     let is_last : last_of p places ≡ last = same_Some _ _ (sym (last_is p places) ∙ ends) in
     let half_from : IsHalfEdgeOf s (record { from = last_of p places; to = q }) = subst (λ v. IsHalfEdgeOf s (half_edge v q)) (sym is_last) half in
-    subst (λ l. AllZip IsHalfEdgeOf (order ++ s ∷ []) l) (sym (legs-push p places q)) (each_push order (legs (p ∷ places)) s (record { from = last_of p places; to = q }) each half_from)
+    subst (λ l. AllZip IsHalfEdgeOf (order ++ s ∷ []) l) (sym (legs-push p places q)) (AllZip-append IsHalfEdgeOf order (s ∷ []) (legs (p ∷ places)) (record { from = last_of p places; to = q } ∷ []) each (half_from, tt))
 
 -- and goes on with any segment that is left at its last place
 pub trail_more : (segments : List Segment) (mark : Point) (places : List Point) (last : Point) (rest : List Segment) (index : ℕ) (s : Segment) (to : Point) → IsTrail segments mark places last rest →

@@ -1,5 +1,5 @@
 -- One simple closed loop, and the route round it.
-use Rattle.std.specs.Prelude.{◌≡◌, ◌≢◌, ◌-◌, ◌≤◌, List, [], ◌∷◌, length, slice_get, Some, Contains, All, AllPairs, IsPermutation}
+use Rattle.std.specs.Prelude.{◌≡◌, ◌≢◌, ◌-◌, ◌≤◌, List, length, slice_get, Some, Contains, All, AllPairs, IsPermutation}
 use Rattle.std.specs.List.{AllZip}
 use Rattle.nest_base.specs.declared.places.Point.{Point}
 use Rattle.nest_base.specs.declared.places.Segment.{Segment}

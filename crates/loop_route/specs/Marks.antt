@@ -1,5 +1,5 @@
 -- The mark vertex of a loop, and its mark side.
-use Rattle.std.specs.Prelude.{◌≡◌, ◌<ℤ◌, ◌⊎◌, List, Contains}
+use Rattle.std.specs.Prelude.{◌≡◌, ◌⊎◌, List, Contains}
 use Rattle.nest_base.specs.declared.places.Point.{Point}
 use Rattle.nest_base.specs.declared.places.Segment.{Segment}
 use Rattle.nest_base.specs.Plane.{HalfEdge, direction, heading}

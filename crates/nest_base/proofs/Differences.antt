@@ -40,3 +40,9 @@ diff-mul a b c d =
 
 -- what pushes the operations inside
 pub ruleset diffs = (diff-add, diff-sub, diff-neg, diff-mul)
+
+pub mul-neg : (a b : ℤ) → a *ℤ neg_ℤ b ≡ neg_ℤ (a *ℤ b)
+mul-neg a b = rw (diff_of a, diff_of b) (simp diffs (diff_same _ _ _ _ (omega arith)))
+
+pub neg-mul : (a b : ℤ) → neg_ℤ a *ℤ b ≡ neg_ℤ (a *ℤ b)
+neg-mul a b = rw (diff_of a, diff_of b) (simp diffs (diff_same _ _ _ _ (omega arith)))

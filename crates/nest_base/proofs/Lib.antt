@@ -1,4 +1,10 @@
 pub mod Differences
 pub mod Signs
 pub mod Bounds
+pub mod Intervals
+pub mod Directions
 pub mod Points
+pub mod Orders
+pub mod Lists
+pub mod Pairs
+pub mod Walks

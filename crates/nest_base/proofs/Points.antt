@@ -1,8 +1,14 @@
--- Places as points of the plane.
+-- Places as points of the plane, and the points of a segment.
 use Rattle.std.proofs.Common.{arith, ◌≡◌, ℤ, pos, ◌*ℤ◌}
 use Rattle.std.proofs.lemmas.Int.{ints}
 use Rattle.nest_base.specs.declared.places.Point.{Point}
-use Rattle.nest_base.specs.Plane.{IsBetween, IsOn, rational, direction, cross_product}
+use Rattle.nest_base.specs.Plane.{RationalPoint, IsBetween, IsOn, rational, scaled, numerators, direction, cross_product}
+use Rattle.nest_base.proofs.Intervals.{first_between, turned_between}
+use Rattle.nest_base.proofs.Directions.{cross_product-at, cross_product-turned}
+
+-- places with the same coordinates are one
+pub same_place : {p q : Point} → p.x ≡ q.x → p.y ≡ q.y → p ≡ q
+same_place e f i = record { x = e i; y = f i }
 
 pub mul-one : (v : ℤ) → v *ℤ pos 1 ≡ v
 mul-one v = omega (arith, ints)
@@ -23,3 +29,18 @@ across_place p a b on = rw (mul-one a.x, mul-one b.x) at on.between_x
 
 pub up_place : (p a b : Point) → IsOn (rational p) a b → IsBetween a.y p.y b.y
 up_place p a b on = rw (mul-one a.y, mul-one b.y) at on.between_y
+
+-- the ends of a segment may change places
+pub turned_on : (a b : Point) (p : RationalPoint) → IsOn p a b → IsOn p b a
+turned_on a b p on = record {
+  on_line = cross_product-turned (direction (numerators p) (scaled a p.w)) (direction (numerators p) (scaled b p.w)) on.on_line;
+  between_x = turned_between (a.x *ℤ p.w) p.x (b.x *ℤ p.w) on.between_x;
+  between_y = turned_between (a.y *ℤ p.w) p.y (b.y *ℤ p.w) on.between_y;
+}
+
+-- the ends of a segment lie on it
+pub on_first : (a b : Point) → IsOn (rational a) a b
+on_first a b = on_place a a b (cross_product-at a b) (first_between a.x b.x) (first_between a.y b.y)
+
+pub on_last : (a b : Point) → IsOn (rational b) a b
+on_last a b = turned_on b a (rational b) (on_first b a)

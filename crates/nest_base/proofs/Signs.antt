@@ -1,20 +1,12 @@
 -- Signs of products of integers.
-use Rattle.std.proofs.Common.{arith, ℕ, zero, ◌*◌, ◌<◌, ℤ, pos, negsuc, ◌+ℤ◌, ◌*ℤ◌, ◌<ℤ◌, ◌≤ℤ◌}
+use Rattle.std.proofs.Common.{arith, ℤ, pos, negsuc, ◌+ℤ◌, ◌*ℤ◌, ◌<ℤ◌, ◌≤ℤ◌}
 use Rattle.std.proofs.lemmas.Int.{ints, by_lt_z}
-use Rattle.std.proofs.Math.Nat.{mul-le-mul_right}
-use borrow.Author.Differences.{le_out}
-
-below : (m n : ℕ) → zero < m → zero < n → zero < m * n
-below m n p q = grind arith
+use Rattle.std.proofs.Math.Nat.{mul-pos}
 
 pub mul_pos : (a b : ℤ) → pos 0 <ℤ a → pos 0 <ℤ b → pos 0 <ℤ (a *ℤ b)
-mul_pos (pos m) (pos n) p q = omega (arith, ints, below m n (omega (arith, ints)) (omega (arith, ints)))
+mul_pos (pos m) (pos n) p q = omega (arith, ints, mul-pos {m = m} {n = n} (omega (arith, ints)) (omega (arith, ints)))
 mul_pos (pos m) (negsuc n) p q = absurd (omega (arith, ints))
 mul_pos (negsuc m) b p q = absurd (omega (arith, ints))
-
-pub mul_le : (a b c : ℤ) → pos 0 ≤ℤ c → a ≤ℤ b → (a *ℤ c) ≤ℤ (b *ℤ c)
-mul_le a b (pos n) p h = omega (arith, ints, mul-le-mul_right n (le_out a b h))
-mul_le a b (negsuc n) p h = absurd (omega (arith, ints))
 
 pub mul_nonneg : (a b : ℤ) → pos 0 ≤ℤ a → pos 0 ≤ℤ b → pos 0 ≤ℤ (a *ℤ b)
 mul_nonneg (pos m) (pos n) p q = omega (arith, ints)

@@ -1,12 +1,12 @@
 -- The promise of the top call, kept by the route round one loop.
-use Rattle.std.proofs.Common.{◌≡◌, ◌≤◌, ◌⊎◌, inl, inr, ℕ, List, [], ◌∷◌, length, All, Contains, lit≤, sym, subst}
+use Rattle.std.proofs.Common.{◌≡◌, ◌≤◌, ◌⊎◌, inl, inr, List, [], ◌∷◌, length, All, Contains, lit≤, sym, subst}
 use Rattle.std.proofs.lemmas.List.Elements.{All-cons, All-nil}
 use Rattle.nest_base.specs.declared.places.Point.{Point}
 use Rattle.nest_base.specs.declared.places.Segment.{Segment}
 use Rattle.nest_base.specs.declared.places.Edge.{Edge}
 use Rattle.nest_base.specs.Plane.{HalfEdge}
 use Rattle.nest_base.specs.Range.{IsSegmentWithin}
-use Rattle.plate_edges.proofs.Lists.{Contains-cases, Contains-none}
+use Rattle.nest_base.proofs.Lists.{Contains-cases, Contains-none}
 use Rattle.plate_sides.specs.Components.{IsMark}
 use Rattle.plate_covers.specs.Limit.{IsLimit}
 use Rattle.pierce_bound.specs.Bound.{NoCoverUndercuts}

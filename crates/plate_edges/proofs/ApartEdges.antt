@@ -6,15 +6,18 @@ use Rattle.std.proofs.lemmas.List.Sorted.{IsPermutation-sym, Contains-permutatio
 use Rattle.nest_base.specs.declared.places.Point.{Point}
 use Rattle.nest_base.specs.declared.places.Segment.{Segment}
 use Rattle.nest_base.specs.declared.places.Edge.{Edge}
-use Rattle.nest_base.specs.Plane.{rational, IsOn, IsEndAt, MeetIn, MeetAtEndsOnly}
+use Rattle.nest_base.specs.Plane.{rational, direction, IsOn, IsEndAt, MeetIn, MeetAtEndsOnly}
 use Rattle.nest_base.specs.Order.{IsBefore}
+use Rattle.nest_base.proofs.Directions.{cross_product-self}
+use Rattle.nest_base.proofs.Orders.{IsBefore-irrefl}
+use Rattle.nest_base.proofs.Points.{on_first, on_last}
 use Rattle.plate_edges.specs.Cuts.{IsParallel, IsCutPoint}
 use Rattle.plate_edges.specs.Edges.{IsInside, IsPieceOf, IsEdge, IsEdgeBefore, edge_of}
 use Rattle.plate_edges.specs.Laws.{HasLength, ApartSegmentsAreTheirEdges}
 use Rattle.plate_edges.proofs.Lists.{pair_of, Contains-map, origin_in, AllPairs-map}
 use Rattle.plate_edges.proofs.Sorts.{Sorted, sorted}
-use Rattle.plate_edges.proofs.Orders.{same_edge, turned_order, by_order, not_before_itself, lt_before, not_lt_after, IsEdgeBefore-is_strict}
-use Rattle.plate_edges.proofs.Places.{place_at, at_place, on_first, on_last, middle, on_middle, AreSameEnds, same_ends_back, on_same_ends, middle_at_first, middle_at_last, parallel_to_itself}
+use Rattle.plate_edges.proofs.Orders.{same_edge, turned_order, by_order, lt_before, not_lt_after, IsEdgeBefore-is_strict}
+use Rattle.plate_edges.proofs.Places.{place_at, at_place, middle, on_middle, AreSameEnds, same_ends_back, on_same_ends, middle_at_first, middle_at_last}
 
 -- q is an end of s
 abbrev IsEndOf : Segment → Point → Type 0
@@ -52,7 +55,7 @@ cut_is_end segments h s c q (on, inl (t, d, end)) = elim (same_or_end segments h
 ]
 cut_is_end segments h s c q (on, inr (t, u, d, e, turned, meet)) = elim (same_or_end segments h s t c d q (on, meet.0)) [
   | inl one ↦ elim (same_or_end segments h s u c e q (on, meet.1)) [
-    | inl other ↦ absurd (turned (subst (λ r. IsParallel r u) one (subst (λ r. IsParallel s r) other (parallel_to_itself s))))
+    | inl other ↦ absurd (turned (subst (λ r. IsParallel r u) one (subst (λ r. IsParallel s r) other (cross_product-self (direction s.a s.b)))))
     | inr end ↦ end
   ]
   | inr end ↦ end
@@ -84,10 +87,10 @@ one_from_to s e f h k = elim h.ends [
 
 -- a piece has the ends of its segment
 piece_from_to : (s : Segment) (e : Edge) → IsBefore e.low e.high → IsEndOf s e.low → IsEndOf s e.high → IsFromTo s e
-piece_from_to s e order (inl l) (inl h) = absurd (not_before_itself e.low e.high (sym l ∙ h) order)
+piece_from_to s e order (inl l) (inl h) = absurd (IsBefore-irrefl e.low e.high order (sym l ∙ h))
 piece_from_to s e order (inl l) (inr h) = record { order = order; ends = inl (l, h) }
 piece_from_to s e order (inr l) (inl h) = record { order = order; ends = inr (h, l) }
-piece_from_to s e order (inr l) (inr h) = absurd (not_before_itself e.low e.high (sym l ∙ h) order)
+piece_from_to s e order (inr l) (inr h) = absurd (IsBefore-irrefl e.low e.high order (sym l ∙ h))
 
 -- each edge is a segment's
 edge_is_segment : (segments : List Segment) → AreApart segments → (e : Edge) → IsEdge segments e → Contains (map edge_of segments) e

@@ -1,22 +1,10 @@
--- Lists and their elements.
+-- Images of lists, and lists in order.
 use Rattle.std.proofs.Common.{arith, ◌≡◌, zero, suc, ◌⊎◌, List, [], ◌∷◌, map, refl, sym, ap, inl, inr, subst, ◌∙◌}
-use Rattle.std.specs.Prelude.{Contains, All, AllPairs}
-use Rattle.std.proofs.lemmas.List.Elements.{All-map, All-contains}
+use Rattle.std.specs.Prelude.{Contains, AllPairs}
+use Rattle.std.proofs.lemmas.List.Elements.{All-map}
 use Rattle.std.proofs.lemmas.List.Kept.{AllPairs-cons}
 use Rattle.nest_base.specs.Selection.{EnumeratesBy}
-
-pub Contains-head : {X : Type 0} (x : X) (xs : List X) → Contains (x ∷ xs) x
-Contains-head x xs = (0, omega arith, refl)
-
-pub Contains-later : {X : Type 0} (x y : X) (xs : List X) → Contains xs y → Contains (x ∷ xs) y
-Contains-later x y xs (k, h, e) = (suc k, omega arith, e)
-
-pub Contains-cases : {X : Type 0} (x y : X) (xs : List X) → Contains (x ∷ xs) y → (x ≡ y) ⊎ Contains xs y
-Contains-cases x y xs (zero, h, e) = inl e
-Contains-cases x y xs (suc k, h, e) = inr (k, omega arith, e)
-
-pub Contains-none : {X : Type 0} (y : X) → Contains [] y → ⊥
-Contains-none y (k, h, e) = omega arith
+use Rattle.nest_base.proofs.Lists.{Contains-head, Contains-later, Contains-cases, Contains-none, AllPairs-none, AllPairs-first, AllPairs-to_later, AllPairs-rest}
 
 pub Contains-map : {X Y : Type 0} (f : X → Y) (xs : List X) (x : X) → Contains xs x → Contains (map f xs) (f x)
 Contains-map f [] x c = absurd (Contains-none x c)
@@ -30,15 +18,6 @@ origin_in f (x ∷ xs) y (zero, h, e) = (x, Contains-head x xs, e)
 origin_in f (x ∷ xs) y (suc k, h, e) =
     let r = origin_in f xs y (k, omega arith, e) in (r.0, Contains-later x r.0 xs r.1, r.2)
 
-pub AllPairs-none : {X : Type 0} (R : X → X → Type 0) → AllPairs R []
-AllPairs-none R i j d p q = absurd (omega arith)
-
-pub AllPairs-first : {X : Type 0} (R : X → X → Type 0) (x : X) (xs : List X) → AllPairs R (x ∷ xs) → All (R x) xs
-AllPairs-first R x xs h k d p = h 0 (suc k) d (omega arith) (omega arith)
-
-pub AllPairs-rest : {X : Type 0} (R : X → X → Type 0) (x : X) (xs : List X) → AllPairs R (x ∷ xs) → AllPairs R xs
-AllPairs-rest R x xs h i j d p q = h (suc i) (suc j) d (omega arith) (omega arith)
-
 pub AllPairs-map : {X Y : Type 0} (R : Y → Y → Type 0) (f : X → Y) (xs : List X) → AllPairs (λ x y. R (f x) (f y)) xs → AllPairs R (map f xs)
 AllPairs-map R f [] h = AllPairs-none R
 AllPairs-map {X} R f (x ∷ xs) h =
@@ -51,10 +30,10 @@ pair_of R x y [] h c d = absurd (Contains-none x c)
 pair_of R x y (z ∷ xs) h c d = elim (Contains-cases z x xs c) [
   | inl e ↦ elim (Contains-cases z y xs d) [
     | inl f ↦ inl (sym e ∙ f)
-    | inr m ↦ inr (inl (subst (λ t. R t y) e (All-contains (R z) xs y (AllPairs-first R z xs h) m)))
+    | inr m ↦ inr (inl (subst (λ t. R t y) e (AllPairs-to_later R z y xs h m)))
   ]
   | inr l ↦ elim (Contains-cases z y xs d) [
-    | inl f ↦ inr (inr (subst (λ t. R t x) f (All-contains (R z) xs x (AllPairs-first R z xs h) l)))
+    | inl f ↦ inr (inr (subst (λ t. R t x) f (AllPairs-to_later R z x xs h l)))
     | inr m ↦ pair_of R x y xs (AllPairs-rest R z xs h) l m
   ]
 ]
@@ -66,8 +45,8 @@ same_elements R asym [] [] h k f g = refl
 same_elements R asym [] (y ∷ ys) h k f g = absurd (Contains-none y (g y (Contains-head y ys)))
 same_elements R asym (x ∷ xs) [] h k f g = absurd (Contains-none x (f x (Contains-head x xs)))
 same_elements {X} R asym (x ∷ xs) (y ∷ ys) h k f g =
-    let after_x : (z : X) → Contains xs z → R x z = λ z m. All-contains (R x) xs z (AllPairs-first R x xs h) m in
-    let after_y : (z : X) → Contains ys z → R y z = λ z m. All-contains (R y) ys z (AllPairs-first R y ys k) m in
+    let after_x : (z : X) → Contains xs z → R x z = λ z m. AllPairs-to_later R x z xs h m in
+    let after_y : (z : X) → Contains ys z → R y z = λ z m. AllPairs-to_later R y z ys k m in
     let first : x ≡ y = elim (Contains-cases y x ys (f x (Contains-head x xs))) [
       | inl e ↦ sym e
       | inr m ↦ elim (Contains-cases x y xs (g y (Contains-head y ys))) [

@@ -9,12 +9,10 @@ use Rattle.std.proofs.lemmas.Int.{ints, by_lt_z}
 use Rattle.nest_base.specs.declared.places.Point.{Point}
 use Rattle.nest_base.specs.declared.places.Edge.{Edge}
 use Rattle.nest_base.specs.Order.{IsBefore}
+use Rattle.nest_base.proofs.Orders.{IsBefore-asym, IsBefore-irrefl}
+use Rattle.nest_base.proofs.Points.{same_place}
 use Rattle.plate_edges.specs.Edges.{IsEdgeBefore, place_cmp}
 use Rattle.plate_edges.proofs.Sorts.{IsStrictOrder}
-
--- places with the same coordinates are one
-pub same_place : {p q : Point} → p.x ≡ q.x → p.y ≡ q.y → p ≡ q
-same_place e f i = record { x = e i; y = f i }
 
 pub same_edge : {e f : Edge} → e.low ≡ f.low → e.high ≡ f.high → e ≡ f
 same_edge l h i = record { low = l i; high = h i }
@@ -23,26 +21,16 @@ same_edge l h i = record { low = l i; high = h i }
 by_order_z : {P : Type 0} (a b : ℤ) → (a <ℤ b → P) → (a ≡ b → P) → (b <ℤ a → P) → P
 by_order_z a b less same greater = by_lt_z a b less (λ at_least. by_lt_z b a greater (λ at_most. same (omega (arith, ints))))
 
-pub IsBefore-asym : (a b : Point) → IsBefore a b → IsBefore b a → ⊥
-IsBefore-asym a b (inl h) (inl k) = omega (arith, ints)
-IsBefore-asym a b (inl h) (inr k) = omega (arith, ints, k.0)
-IsBefore-asym a b (inr h) (inl k) = omega (arith, ints, h.0)
-IsBefore-asym a b (inr h) (inr k) = omega (arith, ints, h.1, k.1)
-
 pub IsBefore-trans : (a b c : Point) → IsBefore a b → IsBefore b c → IsBefore a c
 IsBefore-trans a b c (inl h) (inl k) = inl (omega (arith, ints))
 IsBefore-trans a b c (inl h) (inr k) = inl (omega (arith, ints, k.0))
 IsBefore-trans a b c (inr h) (inl k) = inl (omega (arith, ints, h.0))
 IsBefore-trans a b c (inr h) (inr k) = inr (h.0 ∙ k.0, omega (arith, ints, h.1, k.1))
 
--- no place comes before itself
-pub not_before_itself : (a b : Point) → a ≡ b → IsBefore a b → ⊥
-not_before_itself a b e h = let loop : IsBefore a a = subst (IsBefore a) (sym e) h in IsBefore-asym a a loop loop
-
 pub IsEdgeBefore-asym : (e f : Edge) → IsEdgeBefore e f → IsEdgeBefore f e → ⊥
 IsEdgeBefore-asym e f (inl h) (inl k) = IsBefore-asym e.low f.low h k
-IsEdgeBefore-asym e f (inl h) (inr k) = not_before_itself e.low f.low (sym k.0) h
-IsEdgeBefore-asym e f (inr h) (inl k) = not_before_itself f.low e.low (sym h.0) k
+IsEdgeBefore-asym e f (inl h) (inr k) = IsBefore-irrefl e.low f.low h (sym k.0)
+IsEdgeBefore-asym e f (inr h) (inl k) = IsBefore-irrefl f.low e.low k (sym h.0)
 IsEdgeBefore-asym e f (inr h) (inr k) = IsBefore-asym e.high f.high h.1 k.1
 
 pub IsEdgeBefore-trans : (e f g : Edge) → IsEdgeBefore e f → IsEdgeBefore f g → IsEdgeBefore e g
@@ -77,7 +65,7 @@ Compares r a b = MatchOrdering r (a <ℤ b) (a ≡ b) (b <ℤ a)
 lt_by : (r t : Ordering) (a b : Point) → Compares r a.x b.x → Compares t a.y b.y → IsBefore a b → is_lt (ordering_then r t) ≡ true
 lt_by Less t a b x y h = refl
 lt_by Equal Less a b x y h = refl
-lt_by Equal Equal a b x y h = absurd (not_before_itself a b (same_place x y) h)
+lt_by Equal Equal a b x y h = absurd (IsBefore-irrefl a b h (same_place x y))
 lt_by Equal Greater a b x y h = absurd (IsBefore-asym a b h (inr (sym x, y)))
 lt_by Greater t a b x y h = absurd (IsBefore-asym a b h (inl x))
 

@@ -4,7 +4,7 @@ use Rattle.std.specs.Prelude.{◌≢◌, All, AllPairs, IsPermutation}
 use Rattle.std.proofs.lemmas.List.Elements.{All-nil, All-cons, All-head, All-tail, All-weaker}
 use Rattle.std.proofs.lemmas.List.Kept.{AllPairs-cons}
 use Rattle.std.proofs.lemmas.List.Sorted.{IsPermutation-refl, IsPermutation-cons, IsPermutation-middle, IsPermutation-trans, IsPermutation-sym, All-permutation}
-use Rattle.plate_edges.proofs.Lists.{AllPairs-none, AllPairs-first, AllPairs-rest}
+use Rattle.nest_base.proofs.Lists.{AllPairs-none, AllPairs-first, AllPairs-rest}
 
 -- an order in which two different things stand one way round
 pub record IsStrictOrder {X : Type 0} (R : X → X → Type 0) : Type 0 where

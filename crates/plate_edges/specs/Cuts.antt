@@ -1,8 +1,8 @@
 -- Where the segments of a drawing are cut.
-use Rattle.std.specs.Prelude.{◌≡◌, pos, ◌+ℤ◌, ◌*ℤ◌, ◌≤ℤ◌, ◌<ℤ◌, ◌⊎◌, List, Contains}
+use Rattle.std.specs.Prelude.{◌≡◌, pos, ◌⊎◌, List, Contains}
 use Rattle.nest_base.specs.declared.places.Point.{Point}
 use Rattle.nest_base.specs.declared.places.Segment.{Segment}
-use Rattle.nest_base.specs.Plane.{RationalPoint, rational, IsAt, IsOn, MeetIn, cross_product, direction}
+use Rattle.nest_base.specs.Plane.{rational, IsOn, MeetIn, cross_product, direction}
 
 -- s and t go along parallel lines; a segment without length is parallel to each
 abbrev pub IsParallel : Segment → Segment → Type 0

@@ -1,2 +1,3 @@
+pub mod HalfEdges
 pub mod Angles
 pub mod Sixteen

@@ -1,4 +1,8 @@
-//! Half-edges round their vertices, components, the links within and between faces, reach of the outside, and orders of burning that detach nothing before it burns. Definitions, and laws that try angles on sixteen directions. Nothing here runs.
+//! The plate as half-edges: their order round a vertex, components, the links within and between faces, and reach.
+//!
+//! Here stand the definitions of which edges the torch may still burn: a face reaches the outside across unburnt edges, and an
+//! order of burning encloses where no edge is detached before it burns. They speak of places and directions, and of no
+//! numbering. Laws try angles on sixteen directions all round. Nothing here runs; covers, sound code and the report stand on it.
 #![tactic(auto)]
 
 pub mod laws;

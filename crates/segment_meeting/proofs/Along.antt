@@ -4,9 +4,8 @@ use Rattle.std.specs.Prelude.{neg_ℤ}
 use Rattle.std.proofs.lemmas.Int.{ints, by_lt_z}
 use Rattle.nest_base.specs.declared.places.Point.{Point}
 use Rattle.nest_base.specs.Plane.{RationalPoint, IsOn, IsBetween}
-use Rattle.nest_base.proofs.Differences.{diff_of, diffs, diff_same}
+use Rattle.nest_base.proofs.Differences.{diff_of, diffs, diff_same, neg-mul}
 use Rattle.nest_base.proofs.Signs.{mul_nonneg}
-use Rattle.segment_meeting.proofs.Factors.{neg-mul}
 
 -- the point t / w of the way from a to b
 abbrev pub point_along : (a b : Point) (t w : ℤ) → pos 0 <ℤ w → RationalPoint

@@ -5,10 +5,11 @@ use Rattle.nest_base.specs.declared.places.Point.{Point}
 use Rattle.nest_base.specs.declared.places.Segment.{Segment}
 use Rattle.nest_base.specs.Plane.{RationalPoint, IsOn, MeetIn, cross_product, direction, numerators}
 use Rattle.nest_base.proofs.Differences.{diff_of, diffs, diff_same}
+use Rattle.nest_base.proofs.Points.{turned_on}
 use Rattle.nest_base.proofs.Signs.{mul_pos}
 use Rattle.segment_meeting.specs.Sides.{side_of, LieAside, IsPartedFrom}
 use Rattle.segment_meeting.proofs.Between.{zero_mean, not_before}
-use Rattle.segment_meeting.proofs.Lines.{side_of_point, side-on, side-turned, turned_on, seen_from, seen_on}
+use Rattle.segment_meeting.proofs.Lines.{side_of_point, side-on, side-turned, seen_from, seen_on}
 
 -- the side of a point of a segment is a mean of the sides of its ends, by how far it lies along in x
 mean_x : (e c d : Point) (p : RationalPoint) → (d.x -ℤ c.x) *ℤ cross_product e (numerators p) ≡ (d.x *ℤ p.w -ℤ p.x) *ℤ cross_product e c +ℤ (p.x -ℤ c.x *ℤ p.w) *ℤ cross_product e d +ℤ e.x *ℤ side_of_point c d p

@@ -3,16 +3,10 @@ use Rattle.std.proofs.Common.{arith, ◌≡◌, ℤ, pos, ◌+ℤ◌, ◌-ℤ◌
 use Rattle.std.specs.Prelude.{neg_ℤ}
 use Rattle.std.proofs.lemmas.Int.{ints, by_lt_z}
 use Rattle.nest_base.specs.Plane.{IsBetween}
+use Rattle.nest_base.proofs.Differences.{neg-mul}
 use Rattle.nest_base.proofs.Signs.{mul_pos, mean_pos}
 use Rattle.segment_meeting.specs.Sides.{LieBeyond, AreBefore}
-use Rattle.segment_meeting.proofs.Factors.{neg-mul, sub-mul, positive_factor, negative_factor}
-
-pub turned_between : (a m b : ℤ) → IsBetween a m b → IsBetween b m a
-turned_between a m b (inl h) = inr h
-turned_between a m b (inr h) = inl h
-
-pub between_self : (a b : ℤ) → IsBetween a a b
-between_self a b = by_lt_z a b (λ h. inl (omega (arith, ints), omega (arith, ints))) (λ h. inr (h, omega (arith, ints)))
+use Rattle.segment_meeting.proofs.Factors.{sub-mul, positive_factor, negative_factor}
 
 -- between a number and itself lies no other
 pub only_between : (a m b : ℤ) → a ≡ b → IsBetween a m b → m ≡ a

@@ -1,13 +1,14 @@
 -- Two segments of one line meet, unless one lies wholly before the other.
-use Rattle.std.proofs.Common.{arith, ◌≡◌, ℤ, pos, ◌+ℤ◌, ◌-ℤ◌, ◌*ℤ◌, ◌⊎◌, inl, inr, ◌∙◌}
+use Rattle.std.proofs.Common.{arith, ◌≡◌, pos, ◌+ℤ◌, ◌-ℤ◌, ◌*ℤ◌, ◌⊎◌, inl, inr, ◌∙◌}
 use Rattle.std.specs.Prelude.{neg_ℤ}
 use Rattle.std.proofs.lemmas.Int.{ints}
 use Rattle.nest_base.specs.declared.places.Point.{Point}
-use Rattle.nest_base.specs.Plane.{IsBetween, rational, cross_product, direction}
+use Rattle.nest_base.specs.Plane.{IsBetween, rational}
 use Rattle.nest_base.proofs.Differences.{diff_of, diffs, diff_same}
-use Rattle.nest_base.proofs.Points.{on_place}
+use Rattle.nest_base.proofs.Intervals.{first_between}
+use Rattle.nest_base.proofs.Points.{on_place, on_first}
 use Rattle.segment_meeting.specs.Sides.{side_of, LieBeyond}
-use Rattle.segment_meeting.proofs.Between.{between_self, only_between, between_or_beyond, zero_mean, Overlap, held_end, one_number}
+use Rattle.segment_meeting.proofs.Between.{only_between, between_or_beyond, zero_mean, Overlap, held_end, one_number}
 use Rattle.segment_meeting.proofs.Factors.{same_or_not}
 use Rattle.segment_meeting.proofs.Lines.{side-seen}
 use Rattle.segment_meeting.proofs.Sharing.{Share, exchanged, first_turned}
@@ -39,16 +40,9 @@ pub record AreCollinear (a b c d : Point) : Type 0 where
   pub c_on : side_of a b c ≡ pos 0
   pub d_on : side_of a b d ≡ pos 0
 
--- a place is in line with itself
-no_side : (a b : Point) → cross_product (direction a a) (direction a b) ≡ pos 0
-no_side a b = rw (none a.x, none a.y) (omega (arith, ints))
-  where
-    none : (v : ℤ) → v -ℤ v ≡ pos 0
-    none v = omega (arith, ints)
-
 -- an end of the first segment that lies on the second is shared
 at_end : (a b c d : Point) → side_of c d a ≡ pos 0 → IsBetween c.x a.x d.x → IsBetween c.y a.y d.y → Share a b c d
-at_end a b c d on across up = (rational a, (on_place a a b (no_side a b) (between_self a.x b.x) (between_self a.y b.y), on_place a c d (side-seen c d a ∙ on) across up))
+at_end a b c d on across up = (rational a, (on_first a b, on_place a c d (side-seen c d a ∙ on) across up))
 
 -- the second segment isn't upright
 aslant_meet : (a b c d : Point) → (c.x ≡ d.x → ⊥) → AreCollinear a b c d → Overlap a.x b.x c.x d.x → Share a b c d
@@ -61,7 +55,7 @@ aslant_meet a b c d aslant line over = cases (held_end a.x b.x c.x d.x over)
     cases (inl h) = at_a h
     cases (inr (inl h)) = first_turned a b c d (at_end b a c d line.b_on h (level c d b aslant line.b_on h))
     cases (inr (inr h)) = elim (same_or_not a.x b.x) [
-      | inl upright ↦ at_a (rw (only_between a.x c.x b.x upright h) (between_self a.x d.x))
+      | inl upright ↦ at_a (rw (only_between a.x c.x b.x upright h) (first_between a.x d.x))
       | inr first_aslant ↦ exchanged a b c d (at_end c d a b line.c_on h (level a b c first_aslant line.c_on h))
     ]
 

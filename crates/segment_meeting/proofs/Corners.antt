@@ -4,22 +4,17 @@ use Rattle.std.proofs.lemmas.Int.{ints}
 use Rattle.nest_base.specs.declared.places.Point.{Point}
 use Rattle.nest_base.specs.declared.places.Segment.{Segment}
 use Rattle.nest_base.specs.Plane.{RationalPoint, IsOn, IsAt, IsEndAt, MeetAtEndsOnly}
+use Rattle.nest_base.proofs.Points.{same_place, turned_on}
 use Rattle.segment_meeting.specs.Corners.{Joins, AreEndsApart, Folds}
 use Rattle.segment_meeting.proofs.Factors.{zero_factor, sub-mul}
-use Rattle.segment_meeting.proofs.Lines.{turned_on}
 use Rattle.segment_meeting.proofs.Folding.{only_corner, folding}
 
 -- a point is at one place at most
 one_place : (p : RationalPoint) (q r : Point) → IsAt p q → IsAt p r → q ≡ r
 one_place p q r at_q at_r =
     let e = sym at_q ∙ at_r in
-    let same_x : q.x ≡ r.x = same q.x r.x (ap (λ m. m.x) e) in
-    let same_y : q.y ≡ r.y = same q.y r.y (ap (λ m. m.y) e) in
-    ap (λ x. place x q.y) same_x ∙ ap (λ y. place r.x y) same_y
+    same_place (same q.x r.x (ap (λ m. m.x) e)) (same q.y r.y (ap (λ m. m.y) e))
   where
-    place : ℤ → ℤ → Point
-    place x y = record { x = x; y = y }
-
     same : (k l : ℤ) → k *ℤ p.w ≡ l *ℤ p.w → k ≡ l
     same k l e = let zero = zero_factor p.w (k -ℤ l) (λ h. omega (arith, ints, h, p.positive)) (omega (arith, ints, e, sub-mul k l p.w)) in omega (arith, ints, zero)
 

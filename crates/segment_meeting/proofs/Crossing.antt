@@ -4,9 +4,8 @@ use Rattle.std.specs.Prelude.{neg_ℤ}
 use Rattle.std.proofs.lemmas.Int.{ints, by_lt_z}
 use Rattle.nest_base.specs.declared.places.Point.{Point}
 use Rattle.nest_base.specs.Plane.{cross_product, direction}
-use Rattle.nest_base.proofs.Differences.{diff_of, diffs, diff_same}
+use Rattle.nest_base.proofs.Differences.{diff_of, diffs, diff_same, mul-neg}
 use Rattle.segment_meeting.specs.Sides.{side_of, LieBeyond, LieAside}
-use Rattle.segment_meeting.proofs.Factors.{mul-neg}
 use Rattle.segment_meeting.proofs.Between.{turned_beyond, negated_beyond}
 use Rattle.segment_meeting.proofs.Lines.{side-turned}
 use Rattle.segment_meeting.proofs.Along.{point_along, point_along-on}

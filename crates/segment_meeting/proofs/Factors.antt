@@ -1,16 +1,11 @@
 -- What a product says of its factors.
-use Rattle.std.proofs.Common.{arith, ◌≡◌, ℕ, zero, ◌*◌, ◌<◌, ℤ, pos, ◌-ℤ◌, ◌*ℤ◌, ◌<ℤ◌, ◌⊎◌, inl, inr}
+use Rattle.std.proofs.Common.{arith, ◌≡◌, zero, ◌<◌, ℤ, pos, ◌-ℤ◌, ◌*ℤ◌, ◌<ℤ◌, ◌⊎◌, inl, inr}
 use Rattle.std.specs.Prelude.{neg_ℤ, unsigned_abs}
 use Rattle.std.proofs.lemmas.Int.{ints, by_lt_z, unsigned_abs-mul}
 use Rattle.std.proofs.lemmas.Bool.{cases_lt}
-use Rattle.nest_base.proofs.Differences.{diff_of, diffs, diff_same}
+use Rattle.std.proofs.Math.Nat.{mul-pos}
+use Rattle.nest_base.proofs.Differences.{diff_of, diffs, diff_same, neg-mul}
 use Rattle.nest_base.proofs.Signs.{mul_nonneg}
-
-pub mul-neg : (a b : ℤ) → a *ℤ neg_ℤ b ≡ neg_ℤ (a *ℤ b)
-mul-neg a b = rw (diff_of a, diff_of b) (simp diffs (diff_same _ _ _ _ (omega arith)))
-
-pub neg-mul : (a b : ℤ) → neg_ℤ a *ℤ b ≡ neg_ℤ (a *ℤ b)
-neg-mul a b = rw (diff_of a, diff_of b) (simp diffs (diff_same _ _ _ _ (omega arith)))
 
 pub sub-mul : (a b w : ℤ) → (a -ℤ b) *ℤ w ≡ a *ℤ w -ℤ b *ℤ w
 sub-mul a b w = rw (diff_of w, diff_of a, diff_of b) (simp diffs (diff_same _ _ _ _ (omega arith)))
@@ -22,14 +17,11 @@ same_or_not a b = by_lt_z a b (λ h. inr (λ e. omega (arith, ints, e))) (λ h. 
 pub same_unless : (a b : ℤ) → ((a ≡ b → ⊥) → ⊥) → a ≡ b
 same_unless a b not_apart = elim (same_or_not a b) [ inl e ↦ e | inr apart ↦ absurd (not_apart apart) ]
 
-some_product : (m n : ℕ) → zero < m → zero < n → zero < m * n
-some_product m n p q = grind arith
-
 -- a factor of 0 beside one that isn't 0
 pub zero_factor : (a z : ℤ) → (a ≡ pos 0 → ⊥) → a *ℤ z ≡ pos 0 → z ≡ pos 0
 zero_factor a z apart e = elim (same_or_not z (pos 0)) [
   | inl none ↦ none
-  | inr some ↦ absurd (omega (arith, ints, e, unsigned_abs-mul a z, some_product (unsigned_abs a) (unsigned_abs z) (nonzero_abs a apart) (nonzero_abs z some)))
+  | inr some ↦ absurd (omega (arith, ints, e, unsigned_abs-mul a z, mul-pos (nonzero_abs a apart) (nonzero_abs z some)))
 ]
   where
     nonzero_abs : (k : ℤ) → (k ≡ pos 0 → ⊥) → zero < unsigned_abs k

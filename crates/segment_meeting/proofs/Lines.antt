@@ -6,7 +6,6 @@ use Rattle.nest_base.specs.declared.places.Point.{Point}
 use Rattle.nest_base.specs.Plane.{RationalPoint, IsOn, IsBetween, cross_product, direction, numerators, scaled}
 use Rattle.nest_base.proofs.Differences.{diff_of, diffs, diff_same}
 use Rattle.segment_meeting.specs.Sides.{side_of}
-use Rattle.segment_meeting.proofs.Between.{turned_between}
 use Rattle.segment_meeting.proofs.Factors.{zero_factor, sub-mul}
 
 -- where the point p lies of the line from a to b, times its w
@@ -20,16 +19,6 @@ line_cross a b p = rw (diff_of a.x, diff_of a.y, diff_of b.x, diff_of b.y, diff_
 -- so a point of a segment lies on neither side of it
 pub side-on : (a b : Point) (p : RationalPoint) → IsOn p a b → side_of_point a b p ≡ pos 0
 side-on a b p on = zero_factor p.w (side_of_point a b p) (λ e. omega (arith, ints, e, p.positive)) (sym (line_cross a b p) ∙ on.on_line)
-
--- the ends of a segment may change places
-pub turned_on : (a b : Point) (p : RationalPoint) → IsOn p a b → IsOn p b a
-turned_on a b p on = record {
-  on_line = turn (a.x *ℤ p.w -ℤ p.x) (a.y *ℤ p.w -ℤ p.y) (b.x *ℤ p.w -ℤ p.x) (b.y *ℤ p.w -ℤ p.y) on.on_line;
-  between_x = turned_between (a.x *ℤ p.w) p.x (b.x *ℤ p.w) on.between_x;
-  between_y = turned_between (a.y *ℤ p.w) p.y (b.y *ℤ p.w) on.between_y;
-} where
-  turn : (ux uy vx vy : ℤ) → (ux *ℤ vy) -ℤ (uy *ℤ vx) ≡ pos 0 → (vx *ℤ uy) -ℤ (vy *ℤ ux) ≡ pos 0
-  turn ux uy vx vy e = omega (arith, ints, e)
 
 -- the point p seen from a
 abbrev pub seen_from : Point → RationalPoint → RationalPoint

@@ -1,7 +1,7 @@
 -- Sharing a point, whichever way the segments are written.
 use Rattle.nest_base.specs.declared.places.Point.{Point}
 use Rattle.nest_base.specs.Plane.{RationalPoint, IsOn}
-use Rattle.segment_meeting.proofs.Lines.{turned_on}
+use Rattle.nest_base.proofs.Points.{turned_on}
 
 -- the segments from a to b and from c to d have a point in common
 abbrev pub Share : Point → Point → Point → Point → Type 0

@@ -1,64 +1,15 @@
--- A relation between any two elements of a list stays when their order changes.
-use Rattle.std.proofs.Common.{arith, ◌≡◌, ◌≢◌, ℕ, suc, ◌<◌, inl, inr, List, [], ◌∷◌, length, get_or, refl, sym, ap, subst, ◌∙◌}
-use Rattle.std.specs.Prelude.{AllPairs, IsPermutation}
-use Rattle.std.proofs.lemmas.Bool.{cases_eq, cases_order}
-use Rattle.std.proofs.lemmas.List.Edits.{Swapped, swapped_from_swap, length-swap}
-use Rattle.std.proofs.lemmas.List.Sorted.{IsPermutation-keeps}
-use Rattle.std.specs.List.{swap, AllByRecursion}
-
--- R holds of any two elements, both ways round
-abbrev pub AllOthers : {X : Type 0} → (X → X → Type 0) → List X → Type 0
-AllOthers {X} R xs = (i j : ℕ) (d : X) → i < length xs → j < length xs → i ≢ j → R (get_or xs i d) (get_or xs j d)
-
-pub others_from_pairs : {X : Type 0} (R : X → X → Type 0) → ((x y : X) → R x y → R y x) → (xs : List X) → AllPairs R xs → AllOthers R xs
-others_from_pairs R turned xs h i j d p q ne = elim (cases_order i j) [ inl e ↦ absurd (ne e) | inr (inl less) ↦ h i j d less q | inr (inr more) ↦ turned (get_or xs j d) (get_or xs i d) (h j i d more p) ]
-
-carried : {X : Type 0} (R : X → X → Type 0) (a b c d : X) → c ≡ a → d ≡ b → R a b → R c d
-carried {X} R a b c d e f r = let P : X → Type 0 = λ x. R x d in let Q : X → Type 0 = λ y. R a y in subst P (sym e) (subst Q (sym f) r)
-
--- the two indices i and j hold what a and b held, exchanged
-others_swapped : {X : Type 0} (R : X → X → Type 0) (f g : ℕ → X) (a b n : ℕ) → Swapped f g a b → a < n → b < n → ((i j : ℕ) → i < n → j < n → i ≢ j → R (f i) (f j)) →
-    (i j : ℕ) → i < n → j < n → i ≢ j → R (g i) (g j)
-others_swapped R f g a b n s p q h i j k l ne = elim (cases_eq i a) [
-  | inl i_a ↦ elim (cases_eq j b) [
-    | inl j_b ↦ carried R (f b) (f a) (g i) (g j) (ap g i_a ∙ s.0) (ap g j_b ∙ s.1) (h b a q p (λ e. ne (i_a ∙ sym e ∙ sym j_b)))
-    | inr j_not_b ↦ carried R (f b) (f j) (g i) (g j) (ap g i_a ∙ s.0) (s.2 j (λ e. ne (i_a ∙ sym e)) j_not_b) (h b j q l (λ e. j_not_b (sym e)))
-  ]
-  | inr i_not_a ↦ elim (cases_eq i b) [
-    | inl i_b ↦ elim (cases_eq j a) [
-      | inl j_a ↦ carried R (f a) (f b) (g i) (g j) (ap g i_b ∙ s.1) (ap g j_a ∙ s.0) (h a b p q (λ e. ne (i_b ∙ sym e ∙ sym j_a)))
-      | inr j_not_a ↦ carried R (f a) (f j) (g i) (g j) (ap g i_b ∙ s.1) (s.2 j j_not_a (λ e. ne (i_b ∙ sym e))) (h a j p l (λ e. j_not_a (sym e)))
-    ]
-    | inr i_not_b ↦ elim (cases_eq j a) [
-      | inl j_a ↦ carried R (f i) (f b) (g i) (g j) (s.2 i i_not_a i_not_b) (ap g j_a ∙ s.0) (h i b k q i_not_b)
-      | inr j_not_a ↦ elim (cases_eq j b) [
-        | inl j_b ↦ carried R (f i) (f a) (g i) (g j) (s.2 i i_not_a i_not_b) (ap g j_b ∙ s.1) (h i a k p i_not_a)
-        | inr j_not_b ↦ carried R (f i) (f j) (g i) (g j) (s.2 i i_not_a i_not_b) (s.2 j j_not_a j_not_b) (h i j k l ne)
-      ]
-    ]
-  ]
-]
-
-others_after_swap : {X : Type 0} (R : X → X → Type 0) (xs : List X) (a b : ℕ) → a < length xs → b < length xs → AllOthers R xs → AllOthers R (swap xs a b)
-others_after_swap R xs a b p q h i j d k l ne =
-    let same = length-swap xs a b in
-    others_swapped R (λ m. get_or xs m d) (λ m. get_or (swap xs a b) m d) a b (length xs) (swapped_from_swap xs (swap xs a b) a b d p q refl) p q (λ u v. h u v d) i j (omega (arith, same)) (omega (arith, same)) ne
-
-pub others_permuted : {X : Type 0} (R : X → X → Type 0) (xs ys : List X) → AllOthers R xs → IsPermutation xs ys → AllOthers R ys
-others_permuted R xs ys h p = IsPermutation-keeps xs (AllOthers R) h (λ l i j a b k. others_after_swap R l i j a b k) ys p
+-- A relation of each element of a list and those behind it, by recursion.
+use Rattle.std.proofs.Common.{List, [], ◌∷◌}
+use Rattle.std.specs.Prelude.{AllPairs}
+use Rattle.std.specs.List.{AllByRecursion}
+use Rattle.std.proofs.lemmas.List.Elements.{recursion_from_All}
+use Rattle.nest_base.proofs.Lists.{AllPairs-first, AllPairs-rest}
 
 -- each element to the ones behind it
 abbrev pub EachToLater : {X : Type 0} → (X → X → Type 0) → List X → Type 0
 EachToLater R [] = Unit {0}
 EachToLater R (x ∷ xs) = AllByRecursion (R x) xs × EachToLater R xs
 
-first_to_later : {X : Type 0} (P : X → Type 0) (xs : List X) → ((k : ℕ) (d : X) → k < length xs → P (get_or xs k d)) → AllByRecursion P xs
-first_to_later P [] h = tt
-first_to_later P (x ∷ xs) h = (h 0 x (omega arith), first_to_later P xs (λ k d l. h (suc k) d (omega (arith, l))))
-
-pub later_from_others : {X : Type 0} (R : X → X → Type 0) (xs : List X) → AllOthers R xs → EachToLater R xs
-later_from_others R [] h = tt
-later_from_others R (x ∷ xs) h = (
-  first_to_later (R x) xs (λ k d l. h 0 (suc k) d (omega arith) (omega (arith, l)) (omega arith)),
-  later_from_others R xs (λ i j d p q ne. h (suc i) (suc j) d (omega (arith, p)) (omega (arith, q)) (λ e. ne (omega (arith, e)))),
-)
+pub later_from_pairs : {X : Type 0} (R : X → X → Type 0) (xs : List X) → AllPairs R xs → EachToLater R xs
+later_from_pairs R [] h = tt
+later_from_pairs R (x ∷ xs) h = (recursion_from_All (R x) xs (AllPairs-first R x xs h), later_from_pairs R xs (AllPairs-rest R x xs h))

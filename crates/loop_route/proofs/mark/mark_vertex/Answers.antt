@@ -2,14 +2,14 @@ use Rattle.std.proofs.Common.{arith, ◌≡◌, ◌<◌, length, take, ⊎_elim,
 use Rattle.std.proofs.lemmas.List.{take_all}
 use Rattle.nest_base.specs.declared.places.Point.{Point}
 use Rattle.loop_route.specs.Ends.{ends_of}
-use Rattle.loop_route.proofs.Members.{Contains-nil}
+use Rattle.nest_base.proofs.Lists.{Contains-none}
 use Rattle.loop_route.proofs.Marks.{IsFirstOf, not_after_further, first_of_more, first_end, second_end}
 use Rattle.loop_route.proofs.mark.mark_vertex.Goals as goal
 
 pub loop-s-init : goal.loop-s-init
 loop-s-init c = record {
   vertex = first_end c.args.segments.now 0 _ c.requires;
-  first = λ v among. absurd (Contains-nil v among);
+  first = λ v among. absurd (Contains-none v among);
 }
 
 pub loop-s-preserved : goal.loop-s-preserved

@@ -2,7 +2,7 @@ use Rattle.std.proofs.Common.{arith, ◌≡◌, refl}
 use Rattle.std.proofs.lemmas.List.Elements.{All-contains}
 use Rattle.nest_base.specs.declared.places.Point.{Point}
 use Rattle.loop_route.specs.Ends.{ends_of, degree}
-use Rattle.loop_route.proofs.Members.{All-from_each}
+use Rattle.nest_base.proofs.Lists.{All-from_contains}
 use Rattle.loop_route.proofs.OneLoop.{not_round, joins, several}
 use Rattle.loop_route.proofs.route.route_round.Goals as goal
 
@@ -10,7 +10,7 @@ pub returns-then-not-all_are_shared_by_two-clause-none : goal.returns-then-not-a
 returns-then-not-all_are_shared_by_two-clause-none c =
     let segments = c.args.segments.now in
     let shared = c.if-not-all_are_shared_by_two.ensures in
-    λ loop. absurd (cc (shared.1 (All-from_each (λ (v : Point). degree segments v ≡ 2) (ends_of segments) loop.two_ends)))
+    λ loop. absurd (cc (shared.1 (All-from_contains (λ (v : Point). degree segments v ≡ 2) (ends_of segments) loop.two_ends)))
 
 pub returns-then-not-is_round-clause-none : goal.returns-then-not-is_round-clause-none
 returns-then-not-is_round-clause-none c =
