@@ -1,3 +1,5 @@
+ghost use Rattle.std.specs.Prelude.{◌<◌};
+
 use crate::run::run;
 use crate::status::{Early, Status};
 use anyhow::{Result, ensure};
@@ -9,6 +11,47 @@ const SQUARE: [&str; 4] = [
     "10.0 0.0 10.0 10.0",
     "10.0 10.0 0.0 10.0",
     "0.0 10.0 0.0 0.0",
+];
+
+/// Drawings that are plain files, and no loop.
+const NO_LOOPS: [(&str, &[&str]); 10] = [
+    ("no line at all", &[]),
+    ("a line there and back", &["0 0 1 0", "1 0 0 0"]),
+    ("an open square", &["0 0 9 0", "9 0 9 9", "9 9 0 9"]),
+    ("a bow-tie", &["0 0 4 4", "4 4 4 0", "4 0 0 4", "0 4 0 0"]),
+    (
+        "a vertex on another edge",
+        &["0 0 4 0", "4 0 4 4", "4 4 2 0", "2 0 0 4", "0 4 0 0"],
+    ),
+    (
+        "two triangles",
+        &[
+            "0 0 1 0", "1 0 0 1", "0 1 0 0", "5 0 6 0", "6 0 5 1", "5 1 5 0",
+        ],
+    ),
+    (
+        "two triangles that touch",
+        &[
+            "0 0 1 0",
+            "1 0 0 1",
+            "0 1 0 0",
+            "0 0 -1 0",
+            "-1 0 0 -1",
+            "0 -1 0 0",
+        ],
+    ),
+    (
+        "a line of no length",
+        &["0 0 9 0", "9 0 9 9", "9 9 0 9", "0 9 0 0", "9 0 9 0"],
+    ),
+    (
+        "three lines of no length",
+        &["0 0 0 0", "0 0 0 0", "0 0 0 0"],
+    ),
+    (
+        "a repeated line",
+        &["0 0 9 0", "9 0 9 9", "9 9 0 9", "0 9 0 0", "9 0 0 0"],
+    ),
 ];
 
 fn words_of(alloc: Global, texts: &[&str]) -> Result<Vec<String>, AllocError> {
@@ -103,52 +146,14 @@ fn other_words_print_the_usage(rt: HostRuntime) -> Result<()> {
 #[test]
 fn drawings_that_are_no_loop_are_refused(rt: HostRuntime) -> Result<()> {
     let alloc = rt.alloc();
-    let open: [&str; 3] = [SQUARE[0], SQUARE[1], SQUARE[2]];
-    let with_point: [&str; 5] = [SQUARE[0], SQUARE[1], SQUARE[2], SQUARE[3], "10 0 10 0"];
-    let twice: [&str; 5] = [SQUARE[0], SQUARE[1], SQUARE[2], SQUARE[3], "10 0 0 0"];
-    let cases: [(&str, &[&str]); 10] = [
-        ("no line at all", &[]),
-        ("a line there and back", &["0 0 1 0", "1 0 0 0"]),
-        ("an open square", &open),
-        ("a bow-tie", &["0 0 4 4", "4 4 4 0", "4 0 0 4", "0 4 0 0"]),
-        (
-            "a vertex on another edge",
-            &["0 0 4 0", "4 0 4 4", "4 4 2 0", "2 0 0 4", "0 4 0 0"],
-        ),
-        (
-            "two triangles",
-            &[
-                "0 0 1 0", "1 0 0 1", "0 1 0 0", "5 0 6 0", "6 0 5 1", "5 1 5 0",
-            ],
-        ),
-        (
-            "two triangles that touch",
-            &[
-                "0 0 1 0",
-                "1 0 0 1",
-                "0 1 0 0",
-                "0 0 -1 0",
-                "-1 0 0 -1",
-                "0 -1 0 0",
-            ],
-        ),
-        ("a line of no length", &with_point),
-        (
-            "three lines of no length",
-            &["0 0 0 0", "0 0 0 0", "0 0 0 0"],
-        ),
-        ("a repeated line", &twice),
-    ];
-    for (what, lines) in cases {
+    for (what, lines) in NO_LOOPS {
         let mut desk = desk_with(alloc, drawing_of(alloc, lines)?.as_str())?;
-        let status = run(
-            alloc,
-            &words_of(alloc, &["plan", "a.dxf", "a.ngc"])?,
-            &mut desk,
-        );
+        let words = words_of(alloc, &["plan", "a.dxf", "a.ngc"])?;
+        let status = run(alloc, &words, &mut desk);
         ensure!(status == Status::Early(Early::NotOneLoop), "{what}");
+        ensure!(status.code() == 4, "{what}");
         ensure!(
-            status.code() == 4 && desk.printed() == b"refused not one loop\n".as_slice(),
+            desk.printed() == b"refused not one loop\n".as_slice(),
             "{what}"
         );
         ensure!(desk.file("a.ngc").is_none(), "{what}");
