@@ -13,8 +13,8 @@ use Rattle.nest_base.proofs.Lists.{last_of}
 use Rattle.code_moves.specs.BurntChains.{IsChain, begins_lighting}
 use Rattle.code_moves.specs.Meaning.{code_range}
 use Rattle.code_moves.specs.Words.{Words}
-use Rattle.code_moves.proofs.Bytes.{all_imply}
-use Rattle.code_moves.proofs.Numbers.{written_number}
+use Rattle.micron_decimals.proofs.Bytes.{all_imply}
+use Rattle.micron_decimals.proofs.WrittenNumbers.{written_number}
 use Rattle.code_moves.proofs.CodeLines.{travel, burn, torch_words, burn_lines, chain_lines, units_words, feed_words, head_lines, IsWritable}
 use Rattle.code_moves.proofs.Pieces.{unlit, burning, Done, Does, then_does}
 use Rattle.code_moves.proofs.Steps.{IsCodePlace, does_nothing, does_travel, does_light, does_burn, does_put_out}

@@ -13,8 +13,9 @@ use Rattle.nest_base.specs.Lines.{lines_of}
 use Rattle.micron_decimals.specs.Decimals.{plain_of, micron_text}
 use Rattle.code_moves.specs.CodeText.{head_text, motion_text, chain_text, tail_text, code_text}
 use Rattle.code_moves.specs.Words.{Word, Words, content_of}
-use Rattle.code_moves.proofs.Bytes.{all-append, all-map}
-use Rattle.code_moves.proofs.Numbers.{NumberBytes, written_number}
+use Rattle.micron_decimals.proofs.Bytes.{all-append}
+use Rattle.code_moves.proofs.Bytes.{all-map}
+use Rattle.micron_decimals.proofs.WrittenNumbers.{NumberBytes, written_number}
 use Rattle.code_moves.proofs.WrittenLines.{IsOneLine, written, lines_written}
 use Rattle.code_moves.proofs.LineWords.{line_text, IsWord, none_in_line, content_of-line}
 

@@ -1,5 +1,4 @@
 mod Bytes
-pub mod Numbers
 mod WrittenLines
 mod LineWords
 mod CodeLines

@@ -12,8 +12,9 @@ use Rattle.std.proofs.lemmas.List.Splits.{slice_split_none}
 use Rattle.nest_base.specs.Lines.{is_blank}
 use Rattle.micron_decimals.specs.Decimals.{plain_of}
 use Rattle.code_moves.specs.Words.{Word, is_open, is_close, are_commented, uncommented, bare, words_of, are_words, Content, Words, content_in, mark_or_words, content_of}
-use Rattle.code_moves.proofs.Bytes.{NonePass, all_imply, all-append, count_by_none, before_first_none, before_first_at}
-use Rattle.code_moves.proofs.Numbers.{NumberBytes, number_has_no_blank}
+use Rattle.micron_decimals.proofs.Bytes.{NonePass, all_imply, all-append, before_first_none, before_first_at}
+use Rattle.code_moves.proofs.Bytes.{count_by_none}
+use Rattle.micron_decimals.proofs.WrittenNumbers.{NumberBytes, number_has_no_blank}
 
 abbrev pub word_text : Word → List ℕ
 word_text w = w.letter ∷ w.number

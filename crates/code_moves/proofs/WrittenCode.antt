@@ -13,7 +13,7 @@ use Rattle.code_moves.specs.CodeText.{code_text}
 use Rattle.code_moves.specs.Meaning.{code_range, code_refusal_of, moves_of, refusal_from, moves_from, content_or_empty}
 use Rattle.code_moves.specs.Moves.{way, lit_moves}
 use Rattle.code_moves.specs.Words.{Word, Words}
-use Rattle.code_moves.proofs.Bytes.{all_imply}
+use Rattle.micron_decimals.proofs.Bytes.{all_imply}
 use Rattle.code_moves.proofs.CodeLines.{IsWritable, head_lines, chain_lines, tail_lines, code_lines, code_is_lines, lines_of-code_text}
 use Rattle.code_moves.proofs.Pieces.{unlit, Done, then_done, refusal_in, refusal_of_lines, contents_of_lines}
 use Rattle.code_moves.proofs.Steps.{ends}

@@ -7,7 +7,7 @@ use Rattle.std.proofs.lemmas.List.{append_assoc}
 use Rattle.std.proofs.lemmas.List.Elements.{All-from_recursion}
 use Rattle.std.proofs.lemmas.List.Splits.{slice_split_at}
 use Rattle.nest_base.specs.Lines.{lines_of}
-use Rattle.code_moves.proofs.Bytes.{NonePass}
+use Rattle.micron_decimals.proofs.Bytes.{NonePass}
 
 -- neither LF nor CR stands in the line
 pub record IsOneLine (line : List ℕ) : Type 0 where

@@ -1,8 +1,9 @@
--- Decimals in millimetres: their grammar, the nearest micrometre, and how micrometres are written.
-use Rattle.std.specs.Prelude.{ℕ, ◌+◌, ◌*◌, ◌^◌, ◌/◌, ◌%◌, Bool, true, false, ◌||◌, ◌&&◌, ◌==◌, nat_lt, if◌then◌else◌, List, [], ◌∷◌, ◌++◌, length, ℤ, pos, negsuc, neg_ℤ, ◌+ℤ◌, ◌-ℤ◌, unsigned_abs, Option, Some, None, option_map, option_and_then}
+-- Decimals in millimetres: their grammar, their value, the nearest micrometre, and how micrometres are written.
+use Rattle.std.specs.Prelude.{◌≡◌, ℕ, ◌+◌, ◌*◌, ◌^◌, ◌/◌, ◌%◌, ◌<◌, ◌≤◌, Bool, true, false, ◌||◌, ◌&&◌, ◌==◌, nat_lt, nat_le, if◌then◌else◌, List, [], ◌∷◌, ◌++◌, length, ℤ, pos, negsuc, neg_ℤ, ◌+ℤ◌, ◌-ℤ◌, ◌*ℤ◌, unsigned_abs, Option, Some, None, option_map, option_and_then}
 use Rattle.std.specs.Char.{is_ascii_digit}
 use Rattle.std.specs.Fmt.{decimal}
 use Rattle.std.specs.List.{list_all, list_any, before_first, after_first}
+use Rattle.std.specs.Ordering.{int_eq}
 use Rattle.std.specs.Str.Parse.{digits_value, starts_with_minus, without_leading_sign, signed_digits_value}
 use Rattle.nest_base.specs.Lines.{trimmed}
 
@@ -50,6 +51,10 @@ with_power plain power = option_map (λ (d : Decimal). record d { power = power 
 abbrev pub decimal_of : List ℕ → Option Decimal
 decimal_of text = let rest = trimmed text in option_and_then (with_power (plain_of (before_first is_exponent_mark rest))) (power_of rest)
 
+-- the whole number that an optional sign and 1 to 9 digits write, without blanks and tabs at both ends; none for any other text
+abbrev pub integer_of : List ℕ → Option ℤ
+integer_of text = let rest = trimmed text in if nat_le (length (without_leading_sign rest)) 9 then signed_of rest else None
+
 -- a number with a minus, or without
 abbrev pub signed : Bool → ℕ → ℤ
 signed true n = neg_ℤ (pos n)
@@ -72,13 +77,46 @@ top d k = digits_value 10 (d.whole ++ d.part) * raised (scale d +ℤ pos k)
 abbrev pub down : Decimal → ℕ → ℕ
 down d k = raised (neg_ℤ (scale d +ℤ pos k))
 
--- the whole micrometre nearest to a decimal in millimetres, of two the one further from zero
+-- how far n lies from the fraction t over `below`, times `below`
+abbrev pub gap : ℤ → ℤ → ℕ → ℕ
+gap n t below = unsigned_abs ((n *ℤ pos below) -ℤ t)
+
+-- n is the whole number nearest to the fraction t over `below`, of two the one further from zero
+pub record IsNearest (n t : ℤ) (below : ℕ) : Type 0 where
+  pub near : 2 * gap n t below ≤ below
+  pub tie : 2 * gap n t below ≡ below → unsigned_abs t < unsigned_abs n * below
+
+-- n is the whole micrometre nearest to a decimal in millimetres, of two the one further from zero
+abbrev pub IsNearestMicron : Decimal → ℤ → Type 0
+IsNearestMicron d n = IsNearest n (signed d.negative (top d 3)) (down d 3)
+
+-- n is the whole micrometre nearest to a text in millimetres
+abbrev pub IsMicron : List ℕ → ℤ → Type 0
+IsMicron text n = (d : Decimal) × (decimal_of text ≡ Some d) × IsNearestMicron d n
+
+-- a text in millimetres, whose nearest whole micrometre lies beyond plus and minus `limit`
+abbrev pub IsMicronBeyond : List ℕ → ℤ → Type 0
+IsMicronBeyond text limit = (n : ℤ) × IsMicron text n × (unsigned_abs limit < unsigned_abs n)
+
+-- the size of this micrometre, by a division
+abbrev pub nearest_size : Decimal → ℕ
+nearest_size d = (2 * top d 3 + down d 3) / (2 * down d 3)
+
+-- the whole micrometre nearest to a decimal in millimetres, by a division
 abbrev pub nearest_micron : Decimal → ℤ
-nearest_micron d = signed d.negative ((2 * top d 3 + down d 3) / (2 * down d 3))
+nearest_micron d = signed d.negative (nearest_size d)
 
 -- a text in millimetres, in micrometres
 abbrev pub micron_of : List ℕ → Option ℤ
 micron_of text = option_map nearest_micron (decimal_of text)
+
+-- the value of a decimal is exactly this whole number
+abbrev pub is_exactly : Decimal → ℤ → Bool
+is_exactly d whole = int_eq (signed d.negative (top d 0)) (whole *ℤ pos (down d 0))
+
+-- whether a text is exactly this whole number; none where it isn't in the grammar
+abbrev pub equals_of : List ℕ → ℤ → Option Bool
+equals_of text whole = option_map (λ (d : Decimal). is_exactly d whole) (decimal_of text)
 
 -- a minus where the number is negative
 abbrev pub sign_text : ℤ → List ℕ

@@ -59,32 +59,3 @@ pub fn put_micron(value: i64, out: &mut Text) -> Result<(), OutOfMemory>
     let size = write_micron(value, &mut bytes);
     out.append(&bytes[..size])
 }
-
-#[cfg(test)]
-mod tests {
-    use super::put_micron;
-    use anyhow::{Result, ensure};
-    use nest_base::Text;
-
-    #[test]
-    fn micrometres_are_written_in_millimetres(rt: HostRuntime) -> Result<()> {
-        let cases = [
-            (0, "0.000"),
-            (1, "0.001"),
-            (-1, "-0.001"),
-            (999, "0.999"),
-            (4_000, "4.000"),
-            (-1_500, "-1.500"),
-            (12_050, "12.050"),
-            (100_000_000, "100000.000"),
-            (i64::MAX, "9223372036854775.807"),
-            (i64::MIN, "-9223372036854775.808"),
-        ];
-        for (value, expected) in cases {
-            let mut text = Text::new(rt.alloc());
-            put_micron(value, &mut text)?;
-            ensure!(text.as_slice() == expected.as_bytes());
-        }
-        Ok(())
-    }
-}

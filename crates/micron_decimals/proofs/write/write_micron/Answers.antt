@@ -1,7 +1,6 @@
-use Rattle.std.proofs.Common.{arith, ◌≡◌, ◌≤◌, ◌<◌, ◌^◌, ◌/◌, ap, length, lit≤, ◌∙◌}
+use Rattle.std.proofs.Common.{arith, ◌≡◌, ◌≤◌, ◌<◌, ◌^◌, ◌/◌, ap, length, ◌∙◌}
 use Rattle.std.specs.Fmt.{decimal}
 use Rattle.std.proofs.lemmas.Fmt.{length-decimal-le}
-use Rattle.micron_decimals.specs.Decimals.{three_digits}
 use Rattle.micron_decimals.proofs.write.write_micron.Goals as goal
 
 -- the whole millimetres have at most 16 digits

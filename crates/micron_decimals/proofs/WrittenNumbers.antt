@@ -9,11 +9,12 @@ use Rattle.std.specs.List.{AllByRecursion, suffix_len, before_first, after_first
 use Rattle.std.specs.Option.{option_map}
 use Rattle.std.specs.Str.Parse.{AllDigits, digits_value, digits_value_after, without_leading_sign, starts_with_minus}
 use Rattle.std.proofs.lemmas.Fmt.{decimal_is_IsNumeral, length-decimal-le}
-use Rattle.std.proofs.lemmas.List.{length-append}
+use Rattle.std.proofs.lemmas.List.{length-append, take_all}
 use Rattle.std.proofs.lemmas.Str.Parse.{digit_from_value}
 use Rattle.nest_base.specs.Lines.{is_blank, trimmed}
 use Rattle.micron_decimals.specs.Decimals.{is_point, is_exponent_mark, are_digits, plain_of, decimal_of, Decimal, three_digits, micron_text, nearest_micron, micron_of, signed}
-use Rattle.code_moves.proofs.Bytes.{NonePass, all_imply, all-append, prefix_len_none, suffix_len_none, list_any_none, take_all, before_first_none, before_first_at, after_first_at}
+use Rattle.micron_decimals.proofs.Bytes.{NonePass, all_imply, all-append, prefix_len_none, suffix_len_none, list_any_none, before_first_none, before_first_at, after_first_at}
+use Rattle.micron_decimals.proofs.Cuts.{digits_value_after-append}
 
 abbrev Digits : List ℕ → Type 0
 Digits xs = AllByRecursion (IsInRange 48 57) xs
@@ -52,7 +53,7 @@ no_point : (xs : List ℕ) → Digits xs → NonePass is_point xs
 no_point xs h = all_imply (IsInRange 48 57) (λ b. is_point b ≡ false) digit_is_no_point xs h
 
 trimmed_number : (xs : List ℕ) → NonePass is_blank xs → trimmed xs ≡ xs
-trimmed_number xs h = ap (λ n. take (length (drop n xs) - suffix_len is_blank (drop n xs)) (drop n xs)) (prefix_len_none is_blank xs h) ∙ ap (λ n. take (length xs - n) xs) (suffix_len_none is_blank xs h) ∙ ap (λ n. take n xs) (omega arith) ∙ take_all xs
+trimmed_number xs h = ap (λ n. take (length (drop n xs) - suffix_len is_blank (drop n xs)) (drop n xs)) (prefix_len_none is_blank xs h) ∙ ap (λ n. take (length xs - n) xs) (suffix_len_none is_blank xs h) ∙ ap (λ n. take n xs) (omega arith) ∙ take_all (length xs) xs (omega arith)
 
 -- a minus or none, digits, a point and digits
 spelled : Bool → List ℕ → List ℕ → List ℕ
@@ -104,10 +105,6 @@ decimal_spelled negative d whole part h k =
     let no_mark = all_imply (IsInRange 45 57) (λ b. is_exponent_mark b ≡ false) number_has_no_mark text bytes in
     decimal_by text (parts negative (d ∷ whole) part) (trimmed_number text no_blank) (list_any_none is_exponent_mark text no_mark)
     (before_first_none is_exponent_mark text no_mark) (plain_spelled negative d whole part h k) refl
-
-digits_value_after-append : (n : ℕ) (xs ys : List ℕ) → digits_value_after 10 n (xs ++ ys) ≡ digits_value_after 10 (digits_value_after 10 n xs) ys
-digits_value_after-append n [] ys = refl
-digits_value_after-append n (x ∷ xs) ys = digits_value_after-append (n * 10 + digit_value x) xs ys
 
 digit_value_of : (k : ℕ) → k < 10 → digit_value (48 + k) ≡ k
 digit_value_of k h = grind (arith, common_steps, h)
