@@ -12,7 +12,7 @@ use Rattle.std.proofs.lemmas.Option.{slice_get-get_or, slice_get_past}
 use Rattle.std.proofs.lemmas.Bool.{true≢false}
 use Rattle.std.proofs.lemmas.Slice.Eq.{bytes_eq-Decides}
 use Rattle.std.proofs.lemmas.Grind.{common_steps}
-use Rattle.cut_desk.specs.Memory.{Stored, has_name, file_in, room_in, OnlyRoomsGrow, ReplacesFile}
+use Rattle.cut_desk.specs.Memory.{Stored, has_name, file_in, room_in, GrowsRoom, ReplacesFile}
 
 abbrev kept_file : Option Stored → Option (List ℕ)
 kept_file kept = option_and_then (λ slot. slot.file) kept
@@ -127,13 +127,14 @@ puts_new before slots name bytes i old new files rooms place there is =
       rooms = λ other. puts.rooms other ∙ rooms other;
     }
 
--- the room at the place of a name grows
-pub grows_room : (before slots : List Stored) (name : List ℕ) (i : ℕ) (old new : Stored) → ((other : List ℕ) → file_in slots other ≡ file_in before other) → ((other : List ℕ) → room_in slots other ≡ room_in before other) → position (has_name name) slots ≡ Some i → old ≡ get_or slots i old → new ≡ record old { room = new.room } → old.room ≤ new.room → OnlyRoomsGrow before (set slots i new)
+-- the room at the place of a name grows, and no other
+pub grows_room : (before slots : List Stored) (name : List ℕ) (i : ℕ) (old new : Stored) → ((other : List ℕ) → file_in slots other ≡ file_in before other) → ((other : List ℕ) → room_in slots other ≡ room_in before other) → position (has_name name) slots ≡ Some i → old ≡ get_or slots i old → new ≡ record old { room = new.room } → old.room ≤ new.room → GrowsRoom name before (set slots i new)
 grows_room before slots name i old new files rooms place there is larger =
     let change : ChangesOne name slots (set slots i new) old new = changes_one slots name i old new place there (ap (λ (slot : Stored). slot.name) is) in
     record {
       files = λ other. each_name (λ was is. kept_file is ≡ kept_file was) name slots (set slots i new) old new change (ap (λ (slot : Stored). slot.file) is) (λ kept. refl) other ∙ files other;
-      rooms = λ other. rw (← rooms other) (each_name (λ was is. kept_room was ≤ kept_room is) name slots (set slots i new) old new change larger (λ kept. omega arith) other);
+      room = omega (arith, rooms name, ap kept_room change.before, ap kept_room change.after, larger);
+      others = λ other differs. ap kept_room (change.others other differs) ∙ rooms other;
     }
 
 -- the room of a name after a change at its place

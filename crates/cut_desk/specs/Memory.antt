@@ -42,10 +42,16 @@ file_of desk name = file_in desk.slots name
 abbrev pub room_of : Memory → List ℕ → ℕ
 room_of desk name = room_in desk.slots name
 
--- no file changed, and no room shrank
-pub record OnlyRoomsGrow (old new : List Stored) : Type 0 where
+-- no file and no room changed
+pub record SameStored (old new : List Stored) : Type 0 where
   pub files : (name : List ℕ) → file_in new name ≡ file_in old name
-  pub rooms : (name : List ℕ) → room_in old name ≤ room_in new name
+  pub rooms : (name : List ℕ) → room_in new name ≡ room_in old name
+
+-- the room of a name didn't shrink, and no file and no other room changed
+pub record GrowsRoom (name : List ℕ) (old new : List Stored) : Type 0 where
+  pub files : (other : List ℕ) → file_in new other ≡ file_in old other
+  pub room : room_in old name ≤ room_in new name
+  pub others : (other : List ℕ) → other ≢ name → room_in new other ≡ room_in old other
 
 -- the file of a name is these bytes, and no other file and no room changed
 pub record ReplacesFile (name bytes : List ℕ) (old new : List Stored) : Type 0 where

@@ -1,7 +1,7 @@
 //! A desk that keeps everything in memory, and fails where it is told to.
 ghost use Rattle.std.specs.Prelude.{◌≡◌, ◌≤◌, ◌<◌, ◌+◌, ◌-◌, ◌^◌, ◌∷◌, ◌++◌, [], Some, OnOk, OnErr, IfOk, IfSome, is_err, length, min, not, option_copied};
 ghost use Rattle.cut_desk.specs.Outside.{IsEnd, bytes_after_write};
-ghost use Rattle.cut_desk.specs.Memory.{Memory, OnlyRoomsGrow, ReplacesFile, empty_desk, file_of, room_of, is_to_fail, fails_read, fails_write, fails_print, after_call, after_fault, after_read, shown};
+ghost use Rattle.cut_desk.specs.Memory.{Memory, SameStored, GrowsRoom, ReplacesFile, empty_desk, file_of, room_of, is_to_fail, fails_read, fails_write, fails_print, after_call, after_fault, after_read, shown};
 
 use crate::desk::{Desk, Failed};
 use crate::slot::{self, Slot};
@@ -51,10 +51,10 @@ impl MemoryDesk {
 
     /// Makes the file of a name these bytes. It takes memory for the bytes and for a new name.
     ///
-    /// It is no call that is counted, and no room changes. After `OutOfMemory` no file has changed.
+    /// It is no call that is counted, and no room changes. After `OutOfMemory` no file has changed either.
     pub fn put_file(&mut self, name: &str, bytes: &[u8]) -> Result<(), OutOfMemory>
         ensures ok { OnOk result (ReplacesFile name.now bytes.now self.old.slots self.new.slots) }
-        ensures err { OnErr result (OnlyRoomsGrow self.old.slots self.new.slots) }
+        ensures err { OnErr result (SameStored self.old.slots self.new.slots) }
         ensures rest { self.new ≡ record self.old { slots = self.new.slots } }
     {
         slot::put_file(&mut self.slot_list, name, bytes)
@@ -73,11 +73,12 @@ impl MemoryDesk {
 
     /// Makes the room of a name, and the room for printing, at least `bytes`. It takes memory for both and for a new name.
     ///
-    /// It makes no file. After `OutOfMemory` the desk is as before, but a room may have grown.
+    /// It makes no file, and no other room changes. After `OutOfMemory` the desk is as before, but these two rooms may have
+    /// grown.
     pub fn reserve(&mut self, name: &str, bytes: usize) -> Result<(), OutOfMemory>
         ensures room { OnOk result (bytes ≤ room_of self.new name.now) }
         ensures print_room { OnOk result (bytes ≤ self.new.print_room) }
-        ensures files { OnlyRoomsGrow self.old.slots self.new.slots }
+        ensures grows { GrowsRoom name.now self.old.slots self.new.slots }
         ensures print_grows { self.old.print_room ≤ self.new.print_room }
         ensures rest { self.new ≡ record self.old { slots = self.new.slots; print_room = self.new.print_room } }
     {

@@ -2,7 +2,7 @@
 ghost use Rattle.std.specs.Prelude.{◌≡◌, ℕ, ◌≤◌, ◌<◌, ◌+◌, ◌-◌, min, List, Some, None, OnOk, OnErr, IfOk, length, not, MatchBool, position, find, option_copied};
 ghost use Rattle.std.specs.Bool.{OnTrue, OnFalse};
 ghost use Rattle.cut_desk.specs.Outside.{IsEnd, bytes_after_write};
-ghost use Rattle.cut_desk.specs.Memory.{has_name, file_in, room_in, lacks_room, after_read, OnlyRoomsGrow, ReplacesFile};
+ghost use Rattle.cut_desk.specs.Memory.{has_name, file_in, room_in, lacks_room, after_read, SameStored, GrowsRoom, ReplacesFile};
 
 use nest_base::OutOfMemory;
 use std::alloc::Global;
@@ -155,7 +155,7 @@ fn make_place(slots: &mut Vec<Slot>, name: &str) -> Result<usize, OutOfMemory>
 /// Makes the file of a name these bytes.
 pub fn put_file(slots: &mut Vec<Slot>, name: &str, bytes: &[u8]) -> Result<(), OutOfMemory>
     ensures ok { OnOk result (ReplacesFile name.now bytes.now slots.old.items slots.new.items) }
-    ensures err { OnErr result (OnlyRoomsGrow slots.old.items slots.new.items) }
+    ensures err { OnErr result (SameStored slots.old.items slots.new.items) }
 {
     let place = make_place(slots, name)?;
     let slot = &mut slots[place];
@@ -166,7 +166,7 @@ pub fn put_file(slots: &mut Vec<Slot>, name: &str, bytes: &[u8]) -> Result<(), O
 /// Makes the room of a name at least `bytes`.
 pub fn reserve(slots: &mut Vec<Slot>, name: &str, bytes: usize) -> Result<(), OutOfMemory>
     ensures ok { OnOk result (bytes ≤ room_in slots.new.items name.now) }
-    ensures same { OnlyRoomsGrow slots.old.items slots.new.items }
+    ensures grows { GrowsRoom name.now slots.old.items slots.new.items }
 {
     let place = make_place(slots, name)?;
     let slot = &mut slots[place];
