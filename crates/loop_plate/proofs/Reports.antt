@@ -22,7 +22,7 @@ one_row_text : (number : List ℕ) →
 unfolding digits
 one_row_text number = simp append_assoc
 
-pub loop_text : (edges : List Edge) → report_text (loop_row edges ∷ []) ≡ loop_report edges
+pub loop_text : (edges : List Edge) → report_text (loop_row edges ∷ []) ≡ loop_report (length edges)
 loop_text edges = one_row_text (decimal (length edges))
 
 module _ {edges : List Edge} {side : HalfEdge} {places : List Point} (r : IsClosedRoute edges side places) where
@@ -35,7 +35,7 @@ module _ {edges : List Edge} {side : HalfEdge} {places : List Point} (r : IsClos
   }
 
   -- the report on the loop, where one pierce is spent on its component
-  pub loop_report_is : (IsPierces : Point → ℕ → Type 0) → IsPierces side.from 1 → IsReport edges IsPierces (loop_report edges)
+  pub loop_report_is : (IsPierces : Point → ℕ → Type 0) → IsPierces side.from 1 → IsReport edges IsPierces (loop_report (length edges))
   loop_report_is IsPierces one = record {
     marks = side.from ∷ [];
     are_marks = loop_marks r;

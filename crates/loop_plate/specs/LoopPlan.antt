@@ -35,7 +35,7 @@ pub record IsPlanOfLoop (edges : List Edge) (side : HalfEdge) (places : List Poi
   pub one_trail : HasTrailsIn edges side.from (legs places ∷ []) 1
   pub none_undercuts : NoCoverUndercuts edges side.from
   pub row : IsRowOf edges side.from (loop_row edges)
-  pub report : IsReport edges (λ mark n. HasTrailsIn edges mark (legs places ∷ []) n) (loop_report edges)
+  pub report : IsReport edges (λ mark n. HasTrailsIn edges mark (legs places ∷ []) n) (loop_report (length edges))
 
 -- each closed route is such a plan
 abbrev pub ClosedRouteIsPlan : Type 0

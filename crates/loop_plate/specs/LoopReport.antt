@@ -7,7 +7,6 @@ use Rattle.pierce_report.specs.Report.{Row}
 abbrev pub loop_row : List Edge → Row
 loop_row edges = record { edges = length edges; odd = 0; bound = 1; limit = 1; pierces = 1 }
 
-abbrev pub loop_report : List Edge → List ℕ
-loop_report edges =
-    codes "component 1 edges " ++ decimal (length edges) ++
-    codes " odd 0 bound 1 limit 1 pierces 1\ntotal pierces 1 bound 1\nfewest\n"
+-- the text for a loop of n edges: one component without odd vertices, burnt with one pierce
+abbrev pub loop_report : ℕ → List ℕ
+loop_report n = codes "component 1 edges " ++ decimal n ++ codes " odd 0 bound 1 limit 1 pierces 1\ntotal pierces 1 bound 1\nfewest\n"

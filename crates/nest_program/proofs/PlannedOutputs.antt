@@ -8,9 +8,9 @@ use Rattle.code_moves.specs.CodeText.{code_text}
 use Rattle.code_moves.specs.Meaning.{code_refusal_of, moves_of}
 use Rattle.dxf_drawing.specs.Entities.{plain_segments}
 use Rattle.loop_route.specs.Loops.{IsOneLoop, IsRoute}
+use Rattle.loop_plate.specs.LoopReport.{loop_report}
 use Rattle.nest_program.specs.Outputs.{IsOutput}
 use Rattle.nest_program.specs.Promise.{IsOrderEnclosingPlan}
-use Rattle.nest_program.specs.Report.{loop_report}
 use Rattle.nest_program.proofs.Promises.{route_is_burnt, loop_plan}
 
 -- `shown` and `counted` are the segments as the code lends them, `lent` the places

@@ -18,11 +18,11 @@ use Rattle.code_moves.proofs.WrittenCode.{written_code_burns}
 use Rattle.loop_route.specs.Loops.{IsOneLoop, IsRoute}
 use Rattle.loop_plate.specs.Loops.{IsClosedRoute}
 use Rattle.loop_plate.specs.LoopPlan.{IsPlanOfLoop}
+use Rattle.loop_plate.specs.LoopReport.{loop_report}
 use Rattle.loop_plate.specs.Segments.{GoesRoundEdges}
 use Rattle.loop_plate.proofs.Plans.{plan_of_loop}
 use Rattle.loop_plate.proofs.Segments.{loop_is_closed_route}
 use Rattle.nest_program.specs.Promise.{IsOrderEnclosingPlan}
-use Rattle.nest_program.specs.Report.{loop_report}
 use Rattle.sound_code.specs.Lightings.{HasPierces}
 use Rattle.sound_code.specs.Routes.{CanBeCut, IsEnclosingRoute, one_lighting}
 use Rattle.sound_code.proofs.RouteChains.{cut_within, route_is_chain}

@@ -1,6 +1,6 @@
 //! The report that is printed for a planned drawing.
 ghost use Rattle.std.specs.Prelude.{◌≡◌, ◌++◌, OnOk};
-ghost use Rattle.nest_program.specs.Report.{loop_report};
+ghost use Rattle.loop_plate.specs.LoopReport.{loop_report};
 
 use itoa::Buffer;
 use nest_base::{OutOfMemory, Text};

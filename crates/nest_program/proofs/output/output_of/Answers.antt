@@ -1,5 +1,5 @@
 use Rattle.std.proofs.Common.{arith, ◌≡◌, ◌≤◌, ◌++◌, length, ◌∙◌, ap}
-use Rattle.nest_program.specs.Report.{loop_report}
+use Rattle.loop_plate.specs.LoopReport.{loop_report}
 use Rattle.nest_program.proofs.PlannedOutputs.{output_from}
 use Rattle.nest_program.proofs.output.output_of.Goals as goal
 
