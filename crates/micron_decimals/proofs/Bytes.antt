@@ -1,6 +1,6 @@
 -- Bytes of which none passes a test, and where one of a list does.
 use Rattle.std.proofs.Common.{arith, ◌≡◌, ℕ, suc, ◌+◌, ◌-◌, Bool, true, false, List, [], ◌∷◌, ◌++◌, length, take, drop, refl, ap, ◌∙◌}
-use Rattle.std.specs.List.{AllByRecursion, prefix_len, suffix_len, position_or_len, before_first, after_first, list_any}
+use Rattle.std.specs.List.{AllByRecursion, prefix_len, suffix_len, position_or_len, before_first, after_first}
 use Rattle.std.proofs.lemmas.List.{take_all, take_at}
 use Rattle.std.proofs.lemmas.List.Elements.{All-from_recursion}
 use Rattle.std.proofs.lemmas.List.Sums.{suffix_len_is}
@@ -24,10 +24,6 @@ prefix_len_none p (x ∷ xs) h = rw h.0 refl
 
 pub suffix_len_none : (p : ℕ → Bool) (xs : List ℕ) → NonePass p xs → suffix_len p xs ≡ 0
 suffix_len_none p xs h = suffix_len_is p xs (length xs) 0 (omega arith) (λ k u v. absurd (omega (arith, u, v))) (λ u. All-from_recursion (λ b. p b ≡ false) xs h (length xs - 1) 0 (omega (arith, u))) ∙ omega arith
-
-pub list_any_none : (p : ℕ → Bool) (xs : List ℕ) → NonePass p xs → list_any p xs ≡ false
-list_any_none p [] h = refl
-list_any_none p (x ∷ xs) h = rw h.0 (list_any_none p xs h.1)
 
 drop_front : (xs : List ℕ) (y : ℕ) (ys : List ℕ) → drop (suc (length xs)) (xs ++ y ∷ ys) ≡ ys
 drop_front [] y ys = refl

@@ -15,7 +15,7 @@ use Rattle.nest_base.proofs.Differences.{neg-mul}
 use Rattle.micron_decimals.specs.Decimals.{are_digits, raised, signed}
 use Rattle.micron_decimals.specs.Places.{far, capped, front_value, is_zero}
 use Rattle.micron_decimals.proofs.Cuts.{are_digits-drop}
-use Rattle.micron_decimals.proofs.Rounding.{raised_neg}
+use Rattle.micron_decimals.proofs.Rounding.{raised_neg, no_zeros, power_before, power_inside, power_behind}
 use Rattle.micron_decimals.proofs.Values.{value_cut, value_below, rest_below, zeros_write_zero}
 
 -- a place, or the first one where it lies before it
@@ -46,6 +46,9 @@ same_sign true (suc a) u (pos w) h e f = absurd (omega (arith, ints, h, e, f))
 same_sign true zero u (negsuc w) h e f = absurd (omega (arith, e))
 same_sign true (suc a) u (negsuc w) h e f = ap (λ n. neg_ℤ (pos n)) e
 
+alone : (n b : ℕ) → b ≡ 0 → n ≡ n + b
+alone n b e = omega (arith, e)
+
 to_parts : (negative : Bool) (a b u : ℕ) (whole : ℤ) → b < u → signed negative (a * u + b) ≡ whole *ℤ pos u → (b ≡ 0) × (signed negative a ≡ whole)
 to_parts negative a b u whole h e =
     let sizes : a * u + b ≡ unsigned_abs whole * u + 0 = sym (size-signed negative (a * u + b)) ∙ ap unsigned_abs e ∙ unsigned_abs-mul whole (pos u) ∙ no_more (unsigned_abs whole * u) in
@@ -55,14 +58,8 @@ to_parts negative a b u whole h e =
     no_more : (n : ℕ) → n ≡ n + 0
     no_more n = omega arith
 
-    alone : (n b : ℕ) → b ≡ 0 → n ≡ n + b
-    alone n b e = omega (arith, e)
-
 from_parts : (negative : Bool) (a b u : ℕ) (whole : ℤ) → b ≡ 0 → signed negative a ≡ whole → signed negative (a * u + b) ≡ whole *ℤ pos u
-from_parts negative a b u whole e f = ap (λ n. signed negative n) (alone (a * u) b e) ∙ signed-mul negative a u ∙ ap (λ z. z *ℤ pos u) f
-  where
-    alone : (n b : ℕ) → b ≡ 0 → n + b ≡ n
-    alone n b e = omega (arith, e)
+from_parts negative a b u whole e f = ap (λ n. signed negative n) (sym (alone (a * u) b e)) ∙ signed-mul negative a u ∙ ap (λ z. z *ℤ pos u) f
 
 -- what is lost above `far` decides nothing about a number below it
 below_far : (negative : Bool) (n : ℕ) (whole : ℤ) → unsigned_abs whole < far → ((signed negative (capped n) ≡ whole) → (signed negative n ≡ whole)) × ((signed negative n ≡ whole) → (signed negative (capped n) ≡ whole))
@@ -91,13 +88,10 @@ number_inside negative p ds whole h k less m e =
     let cut = ap (λ n. digits_value 10 (take p ds) * 10 ^ n + digits_value 10 (drop p ds)) count in
     let small = subst (λ n. digits_value 10 (drop p ds) < 10 ^ n) count (rest_below p ds h) in
     decided negative (digits_value 10 ds * 1) (digits_value 10 (take p ds)) (digits_value 10 (drop p ds)) (10 ^ suc m) (front_value p ds) (list_all is_zero (drop p ds)) whole
-    (once (digits_value 10 ds) ∙ value_cut p ds ∙ cut) small (no_zeros (digits_value 10 (take p ds)) (p - length ds) (omega (arith, less))) (zeros_write_zero (drop p ds) (are_digits-drop p ds h)) k
+    (once (digits_value 10 ds) ∙ value_cut p ds ∙ cut) small (sym (no_zeros (digits_value 10 (take p ds)) (p - length ds) (omega (arith, less)))) (zeros_write_zero (drop p ds) (are_digits-drop p ds h)) k
   where
     once : (n : ℕ) → n * 1 ≡ n
     once n = omega arith
-
-    no_zeros : (a k : ℕ) → k ≡ 0 → a * 10 ^ k ≡ a
-    no_zeros a k e = rw e (omega arith)
 
 -- the point stands behind the digits
 number_behind : (negative : Bool) (p : ℕ) (ds : List ℕ) (whole : ℤ) → are_digits ds ≡ true → unsigned_abs whole < far → length ds ≤ p →
@@ -131,17 +125,8 @@ number_before negative p ds whole h k =
 -- digits with the point at a place, as a whole number times a power of ten
 pub number_is : (negative : Bool) (place : ℤ) (ds : List ℕ) (z whole : ℤ) → are_digits ds ≡ true → z ≡ place -ℤ pos (length ds) → unsigned_abs whole < far →
     int_eq (signed negative (digits_value 10 ds * raised z)) (whole *ℤ pos (raised (neg_ℤ z))) ≡ number_at place negative ds whole
-number_is negative (negsuc p) ds z whole h e k = ap (λ y. int_eq (signed negative (digits_value 10 ds * raised y)) (whole *ℤ pos (raised (neg_ℤ y)))) before ∙ number_before negative p ds whole h k
-  where
-    before : z ≡ negsuc (length ds + p)
-    before = omega (arith, ints, e)
+number_is negative (negsuc p) ds z whole h e k = ap (λ y. int_eq (signed negative (digits_value 10 ds * raised y)) (whole *ℤ pos (raised (neg_ℤ y)))) (power_before p (length ds) z e) ∙ number_before negative p ds whole h k
 number_is negative (pos p) ds z whole h e k = elim (cases_lt p (length ds)) [
-  | inl less ↦ ap (λ y. int_eq (signed negative (digits_value 10 ds * raised y)) (whole *ℤ pos (raised (neg_ℤ y)))) (inside less) ∙ number_inside negative p ds whole h k less (length ds - p - 1) (omega (arith, less))
-  | inr least ↦ ap (λ y. int_eq (signed negative (digits_value 10 ds * raised y)) (whole *ℤ pos (raised (neg_ℤ y)))) (behind least) ∙ number_behind negative p ds whole h k least
+  | inl less ↦ ap (λ y. int_eq (signed negative (digits_value 10 ds * raised y)) (whole *ℤ pos (raised (neg_ℤ y)))) (power_inside p (length ds) z e less) ∙ number_inside negative p ds whole h k less (length ds - p - 1) (omega (arith, less))
+  | inr least ↦ ap (λ y. int_eq (signed negative (digits_value 10 ds * raised y)) (whole *ℤ pos (raised (neg_ℤ y)))) (power_behind p (length ds) z e least) ∙ number_behind negative p ds whole h k least
 ]
-  where
-    inside : p < length ds → z ≡ negsuc (length ds - p - 1)
-    inside less = omega (arith, ints, e, less)
-
-    behind : length ds ≤ p → z ≡ pos (p - length ds)
-    behind least = omega (arith, ints, e, least)

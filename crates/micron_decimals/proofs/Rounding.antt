@@ -44,7 +44,7 @@ pub raised_neg : (k : ℕ) → raised (neg_ℤ (pos k)) ≡ 1
 raised_neg zero = refl
 raised_neg (suc k) = refl
 
-no_zeros : (a k : ℕ) → k ≡ 0 → a ≡ a * 10 ^ k
+pub no_zeros : (a k : ℕ) → k ≡ 0 → a ≡ a * 10 ^ k
 no_zeros a k e = rw e (omega arith)
 
 -- the point stands within the digits
@@ -93,19 +93,20 @@ rounded_before p ds h =
     by : (n t u w : ℕ) → n < t → u ≡ t * 10 → u ≤ w → (2 * (n * 1) + w) / (2 * w) ≡ 0
     by n t u w h e k = ap (λ v. (2 * (v * 1) + w) / (2 * w)) (none n w) ∙ half_down 0 n w (omega (arith, h, e, k))
 
+-- the power of ten that a point before, within or behind n digits stands for
+pub power_before : (p n : ℕ) (z : ℤ) → z ≡ negsuc p -ℤ pos n → z ≡ negsuc (n + p)
+power_before p n z e = omega (arith, ints, e)
+
+pub power_inside : (p n : ℕ) (z : ℤ) → z ≡ pos p -ℤ pos n → p < n → z ≡ negsuc (n - p - 1)
+power_inside p n z e less = omega (arith, ints, e, less)
+
+pub power_behind : (p n : ℕ) (z : ℤ) → z ≡ pos p -ℤ pos n → n ≤ p → z ≡ pos (p - n)
+power_behind p n z e least = omega (arith, ints, e, least)
+
 -- digits with the point at a place, as a whole number times a power of ten
 pub rounded_is : (place : ℤ) (ds : List ℕ) (z : ℤ) → are_digits ds ≡ true → z ≡ place -ℤ pos (length ds) → size_at (digits_value 10 ds) z ≡ rounded_at place ds
-rounded_is (negsuc p) ds z h e = ap (λ y. size_at (digits_value 10 ds) y) before ∙ rounded_before p ds h
-  where
-    before : z ≡ negsuc (length ds + p)
-    before = omega (arith, ints, e)
+rounded_is (negsuc p) ds z h e = ap (λ y. size_at (digits_value 10 ds) y) (power_before p (length ds) z e) ∙ rounded_before p ds h
 rounded_is (pos p) ds z h e = elim (cases_lt p (length ds)) [
-  | inl less ↦ ap (λ y. size_at (digits_value 10 ds) y) (inside less) ∙ rounded_inside p ds h less (length ds - p - 1) (omega (arith, less))
-  | inr least ↦ ap (λ y. size_at (digits_value 10 ds) y) (behind least) ∙ rounded_behind p ds least
+  | inl less ↦ ap (λ y. size_at (digits_value 10 ds) y) (power_inside p (length ds) z e less) ∙ rounded_inside p ds h less (length ds - p - 1) (omega (arith, less))
+  | inr least ↦ ap (λ y. size_at (digits_value 10 ds) y) (power_behind p (length ds) z e least) ∙ rounded_behind p ds least
 ]
-  where
-    inside : p < length ds → z ≡ negsuc (length ds - p - 1)
-    inside less = omega (arith, ints, e, less)
-
-    behind : length ds ≤ p → z ≡ pos (p - length ds)
-    behind least = omega (arith, ints, e, least)

@@ -10,10 +10,12 @@ use Rattle.std.specs.Option.{option_map}
 use Rattle.std.specs.Str.Parse.{AllDigits, digits_value, digits_value_after, without_leading_sign, starts_with_minus}
 use Rattle.std.proofs.lemmas.Fmt.{decimal_is_IsNumeral, length-decimal-le}
 use Rattle.std.proofs.lemmas.List.{length-append, take_all}
+use Rattle.std.proofs.lemmas.List.Elements.{All-from_recursion}
+use Rattle.std.proofs.lemmas.List.Folds.{list_any_none}
 use Rattle.std.proofs.lemmas.Str.Parse.{digit_from_value}
 use Rattle.nest_base.specs.Lines.{is_blank, trimmed}
 use Rattle.micron_decimals.specs.Decimals.{is_point, is_exponent_mark, are_digits, plain_of, decimal_of, Decimal, three_digits, micron_text, nearest_micron, micron_of, signed}
-use Rattle.micron_decimals.proofs.Bytes.{NonePass, all_imply, all-append, prefix_len_none, suffix_len_none, list_any_none, before_first_none, before_first_at, after_first_at}
+use Rattle.micron_decimals.proofs.Bytes.{NonePass, all_imply, all-append, prefix_len_none, suffix_len_none, before_first_none, before_first_at, after_first_at}
 use Rattle.micron_decimals.proofs.Cuts.{digits_value_after-append}
 
 abbrev Digits : List ℕ → Type 0
@@ -103,7 +105,7 @@ decimal_spelled negative d whole part h k =
     let bytes = spelled_bytes negative (d ∷ whole) part h k in
     let no_blank = all_imply (IsInRange 45 57) (λ b. is_blank b ≡ false) number_has_no_blank text bytes in
     let no_mark = all_imply (IsInRange 45 57) (λ b. is_exponent_mark b ≡ false) number_has_no_mark text bytes in
-    decimal_by text (parts negative (d ∷ whole) part) (trimmed_number text no_blank) (list_any_none is_exponent_mark text no_mark)
+    decimal_by text (parts negative (d ∷ whole) part) (trimmed_number text no_blank) (list_any_none is_exponent_mark text (All-from_recursion (λ b. is_exponent_mark b ≡ false) text no_mark))
     (before_first_none is_exponent_mark text no_mark) (plain_spelled negative d whole part h k) refl
 
 digit_value_of : (k : ℕ) → k < 10 → digit_value (48 + k) ≡ k
