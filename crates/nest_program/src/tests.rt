@@ -86,6 +86,18 @@ fn desk_with(alloc: Global, drawing: &str) -> Result<MemoryDesk> {
     Ok(desk)
 }
 
+/// A desk with a plain file of these lines in `a.dxf`.
+fn desk_of(alloc: Global, lines: &[&str]) -> Result<MemoryDesk> {
+    let drawing = drawing_of(alloc, lines)?;
+    desk_with(alloc, drawing.as_str())
+}
+
+/// Runs `plan a.dxf a.ngc`.
+fn plan(alloc: Global, desk: &mut MemoryDesk) -> Result<Status> {
+    let words = words_of(alloc, &["plan", "a.dxf", "a.ngc"])?;
+    Ok(run(alloc, &words, desk))
+}
+
 /// The code of one chain through these places, each given as its words.
 fn code_of(alloc: Global, places: &[&str]) -> Result<String, AllocError> {
     let mut code = String::from_str(alloc, "G21 G90\nF1000 S1\n")?;
@@ -101,12 +113,8 @@ fn code_of(alloc: Global, places: &[&str]) -> Result<String, AllocError> {
 #[test]
 fn a_square_is_planned(rt: HostRuntime) -> Result<()> {
     let alloc = rt.alloc();
-    let mut desk = desk_with(alloc, drawing_of(alloc, &SQUARE)?.as_str())?;
-    let status = run(
-        alloc,
-        &words_of(alloc, &["plan", "a.dxf", "a.ngc"])?,
-        &mut desk,
-    );
+    let mut desk = desk_of(alloc, &SQUARE)?;
+    let status = plan(alloc, &mut desk)?;
     ensure!(status == Status::Done && status.code() == 0);
     let code =
         b"G21 G90\nF1000 S1\nG0 X0.000 Y10.000\nM3\nG1 X10.000 Y10.000\nG1 X10.000 Y0.000\nG1 X0.000 Y0.000\nG1 X0.000 Y10.000\nM5\nM2\n";
@@ -134,7 +142,7 @@ fn other_words_print_the_usage(rt: HostRuntime) -> Result<()> {
         &["replay", "a.dxf", "a.ngc"],
     ];
     for texts in cases {
-        let mut desk = desk_with(alloc, drawing_of(alloc, &SQUARE)?.as_str())?;
+        let mut desk = desk_of(alloc, &SQUARE)?;
         let status = run(alloc, &words_of(alloc, texts)?, &mut desk);
         ensure!(status == Status::Words && status.code() == 2);
         ensure!(desk.printed() == b"usage: plan IN OUT\n".as_slice());
@@ -147,9 +155,8 @@ fn other_words_print_the_usage(rt: HostRuntime) -> Result<()> {
 fn drawings_that_are_no_loop_are_refused(rt: HostRuntime) -> Result<()> {
     let alloc = rt.alloc();
     for (what, lines) in NO_LOOPS {
-        let mut desk = desk_with(alloc, drawing_of(alloc, lines)?.as_str())?;
-        let words = words_of(alloc, &["plan", "a.dxf", "a.ngc"])?;
-        let status = run(alloc, &words, &mut desk);
+        let mut desk = desk_of(alloc, lines)?;
+        let status = plan(alloc, &mut desk)?;
         ensure!(status == Status::Early(Early::NotOneLoop), "{what}");
         ensure!(status.code() == 4, "{what}");
         ensure!(
@@ -171,12 +178,8 @@ fn files_that_are_not_plain_are_refused(rt: HostRuntime) -> Result<()> {
         &["0.0 0.0 10.0 0.0001"],
     ];
     for lines in cases {
-        let mut desk = desk_with(alloc, drawing_of(alloc, lines)?.as_str())?;
-        let status = run(
-            alloc,
-            &words_of(alloc, &["plan", "a.dxf", "a.ngc"])?,
-            &mut desk,
-        );
+        let mut desk = desk_of(alloc, lines)?;
+        let status = plan(alloc, &mut desk)?;
         ensure!(status == Status::Early(Early::NotPlain) && status.code() == 4);
         ensure!(desk.printed() == b"refused not plain\n".as_slice());
         ensure!(desk.file("a.ngc").is_none());
@@ -235,12 +238,8 @@ fn loops_are_burnt_from_the_mark_vertex_along_the_mark_side(rt: HostRuntime) -> 
         ),
     ];
     for (lines, places) in cases {
-        let mut desk = desk_with(alloc, drawing_of(alloc, lines)?.as_str())?;
-        let status = run(
-            alloc,
-            &words_of(alloc, &["plan", "a.dxf", "a.ngc"])?,
-            &mut desk,
-        );
+        let mut desk = desk_of(alloc, lines)?;
+        let status = plan(alloc, &mut desk)?;
         ensure!(status == Status::Done);
         ensure!(desk.file("a.ngc") == Some(code_of(alloc, places)?.as_bytes()));
     }
@@ -261,21 +260,24 @@ fn strip_of(alloc: Global, width: u32) -> Result<Vec<String>, AllocError>
     Ok(lines)
 }
 
+/// A plain file of the first lines of a strip, `most` at most.
+fn strip_drawing_of(alloc: Global, width: u32, most: usize) -> Result<String, AllocError>
+    requires { width < 10000 }
+{
+    let strip = strip_of(alloc, width)?;
+    let mut lines = Vec::new(alloc);
+    for line in strip.iter().take(most) {
+        lines.push(line.as_str())?;
+    }
+    drawing_of(alloc, &lines)
+}
+
 #[test]
 fn a_thousand_lines_are_planned_and_no_more(rt: HostRuntime) -> Result<()> {
     let alloc = rt.alloc();
     for (width, most) in [(499, 1000), (500, 1001)] {
-        let strip = strip_of(alloc, width)?;
-        let mut lines = Vec::new(alloc);
-        for line in strip.iter().take(most) {
-            lines.push(line.as_str())?;
-        }
-        let mut desk = desk_with(alloc, drawing_of(alloc, &lines)?.as_str())?;
-        let status = run(
-            alloc,
-            &words_of(alloc, &["plan", "a.dxf", "a.ngc"])?,
-            &mut desk,
-        );
+        let mut desk = desk_with(alloc, strip_drawing_of(alloc, width, most)?.as_str())?;
+        let status = plan(alloc, &mut desk)?;
         if most == 1000 {
             ensure!(status == Status::Done);
             ensure!(
@@ -308,17 +310,8 @@ fn strip_code_of(alloc: Global, width: u32) -> Result<String, AllocError>
 #[test]
 fn a_loop_of_two_hundred_edges_is_planned(rt: HostRuntime) -> Result<()> {
     let alloc = rt.alloc();
-    let strip = strip_of(alloc, 99)?;
-    let mut lines = Vec::new(alloc);
-    for line in &strip {
-        lines.push(line.as_str())?;
-    }
-    let mut desk = desk_with(alloc, drawing_of(alloc, &lines)?.as_str())?;
-    let status = run(
-        alloc,
-        &words_of(alloc, &["plan", "a.dxf", "a.ngc"])?,
-        &mut desk,
-    );
+    let mut desk = desk_with(alloc, strip_drawing_of(alloc, 99, 200)?.as_str())?;
+    let status = plan(alloc, &mut desk)?;
     ensure!(status == Status::Done);
     ensure!(desk.file("a.ngc") == Some(strip_code_of(alloc, 99)?.as_bytes()));
     let report =
@@ -341,11 +334,7 @@ fn each_call_of_the_desk_fails_in_turn(rt: HostRuntime) -> Result<()> {
     for (number, expected, printed) in cases {
         let mut desk = desk_with(alloc, drawing.as_str())?;
         desk.fail_call(number)?;
-        let status = run(
-            alloc,
-            &words_of(alloc, &["plan", "a.dxf", "a.ngc"])?,
-            &mut desk,
-        );
+        let status = plan(alloc, &mut desk)?;
         ensure!(status == expected);
         ensure!(desk.printed() == printed.as_bytes());
         ensure!(desk.file("a.ngc").is_some() == (expected == Status::PrintFault));
@@ -376,11 +365,7 @@ fn a_file_of_one_byte_too_many_is_too_long(rt: HostRuntime) -> Result<()> {
     let bytes = vec![in alloc; b'0'; 67_108_865]?;
     desk.put_file("a.dxf", &bytes)?;
     desk.reserve("a.ngc", 1_000)?;
-    let status = run(
-        alloc,
-        &words_of(alloc, &["plan", "a.dxf", "a.ngc"])?,
-        &mut desk,
-    );
+    let status = plan(alloc, &mut desk)?;
     ensure!(status == Status::TooLong && status.code() == 3);
     ensure!(desk.printed() == b"file too long\n".as_slice());
     ensure!(desk.file("a.ngc").is_none());
