@@ -7,7 +7,7 @@ ghost use Rattle.micron_decimals.specs.Places.{far, capped, clamped, digits_of, 
 
 use crate::digits::{FAR, are_digits, are_zeros, cut, is_half, number, with_zeros};
 use crate::numeral::{numeral, signed, split_sign};
-use crate::trim::trimmed;
+use nest_base::trim::trimmed;
 use std::marker::Model;
 
 /// A decimal: its sign, the digits before and after the point, and its exponent, up to `FAR` either way from 0.

@@ -13,7 +13,6 @@ mod numeral;
 pub mod read;
 #[cfg(test)]
 mod tests;
-mod trim;
 pub mod write;
 
 pub use read::{NumberError, read_equals, read_integer, read_micron};

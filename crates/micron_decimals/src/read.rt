@@ -6,7 +6,7 @@ ghost use Rattle.micron_decimals.specs.Places.{clamped};
 
 use crate::decimal::Decimal;
 use crate::numeral::{numeral, split_sign};
-use crate::trim::trimmed;
+use nest_base::trim::trimmed;
 use thiserror::Error;
 
 /// Why a text wasn't read as a number.

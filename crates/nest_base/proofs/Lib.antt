@@ -1,5 +1,6 @@
 pub mod Differences
 pub mod Signs
+pub mod Sorted
 pub mod Bounds
 pub mod Intervals
 pub mod Directions
@@ -8,3 +9,4 @@ pub mod Orders
 pub mod Lists
 pub mod Pairs
 pub mod Walks
+pub mod Lines

@@ -1,4 +1,4 @@
-//! Places, segments and lists: what every layer of the planner speaks of.
+//! Places, segments, lists and texts by lines: what every layer of the planner speaks of.
 //!
 //! Places are whole micrometres. The predicates on them are exact: no product is rounded, and no sum wraps. The lists grow
 //! by one call at a time, and after want of memory they are as they were.
@@ -12,8 +12,10 @@ pub mod places;
 #[cfg(test)]
 mod tests;
 pub mod text;
+pub mod trim;
 
 pub use drawing::{Drawing, Name};
 pub use memory::OutOfMemory;
-pub use places::{Edge, Point, Segment, between, cross};
+pub use places::{CODE_RANGE, Edge, Point, RANGE, Segment, between, cross};
 pub use text::Text;
+pub use trim::trimmed;

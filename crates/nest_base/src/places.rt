@@ -3,6 +3,12 @@ ghost use Rattle.std.specs.Prelude.{◌≡◌, ◌<◌, ◌^◌, ◌-ℤ◌, ◌
 ghost use Rattle.nest_base.specs.Plane.{IsBetween, IsOn, rational, direction, cross_product};
 ghost use Rattle.nest_base.specs.Range.{IsNear, IsWithin};
 
+/// Coordinates of a drawing lie within plus and minus this many micrometres.
+pub const RANGE: i64 = 100_000_000;
+
+/// Places in code lie within plus and minus this many micrometres: a lead-in may begin beyond the range of the drawing.
+pub const CODE_RANGE: i64 = 100_010_000;
+
 /// A place, or the way from one place to another, in micrometres.
 #[derive(Clone, Copy, Debug, PartialEq, Eq, PartialOrd, Ord, Hash, Drop)]
 pub struct Point {

@@ -1,7 +1,7 @@
 use Rattle.std.proofs.Common.{◌≡◌, ◌+◌, ◌≤◌, length, take}
 use Rattle.std.specs.List.{suffix_len}
 use Rattle.nest_base.specs.Lines.{is_blank}
-use Rattle.micron_decimals.proofs.trim.without_blanks_behind.Given as goal
+use Rattle.nest_base.proofs.trim.without_blanks_behind.Given as goal
 
 abbrev pub invariant-loop-end : goal.invariant-loop-end
 invariant-loop-end l = record {

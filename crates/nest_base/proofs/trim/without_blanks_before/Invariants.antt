@@ -1,6 +1,6 @@
 use Rattle.std.proofs.Common.{◌≡◌, length}
 use Rattle.nest_base.specs.Lines.{without_blanks_before}
-use Rattle.micron_decimals.proofs.trim.without_blanks_before.Given as goal
+use Rattle.nest_base.proofs.trim.without_blanks_before.Given as goal
 
 abbrev pub invariant-loop-first : goal.invariant-loop-first
 invariant-loop-first l = without_blanks_before l.rest ≡ without_blanks_before l.text
