@@ -5,7 +5,8 @@ use Rattle.std.specs.Bool.{Decides}
 use Rattle.std.specs.List.{sum_by}
 use Rattle.std.specs.Ordering.{int_eq}
 use Rattle.std.proofs.lemmas.Bool.Decides.{Decides-int_eq, Decides-and, Decides-like, not_from_Decides}
-use Rattle.std.proofs.lemmas.List.Elements.{All-head, All-tail, All-nil, All-cons}
+use Rattle.std.proofs.lemmas.List.{append_assoc, take_more}
+use Rattle.std.proofs.lemmas.List.Elements.{All-head, All-tail}
 use Rattle.std.proofs.lemmas.List.Sums.{sum_by-cons, sum_by_more}
 use Rattle.std.proofs.lemmas.List.Sorted.{sum_by-IsPermutation}
 use Rattle.nest_base.specs.declared.places.Point.{Point}
@@ -13,6 +14,20 @@ use Rattle.nest_base.specs.declared.places.Segment.{Segment}
 use Rattle.nest_base.proofs.Lists.{Contains-head, Contains-later, Contains-cases, Contains-none}
 use Rattle.nest_base.proofs.Points.{same_place}
 use Rattle.loop_route.specs.Ends.{ends_of, is_place, degree}
+
+pub ends_of-append : (xs ys : List Segment) → ends_of (xs ++ ys) ≡ ends_of xs ++ ends_of ys
+ends_of-append [] ys = refl
+ends_of-append (s ∷ xs) ys = ap (λ later. s.a ∷ s.b ∷ later) (ends_of-append xs ys)
+
+-- one segment more adds its two ends
+pub ends_of-more : (segments : List Segment) (i : ℕ) (d : Segment) → i < length segments → ends_of (take (i + 1) segments) ≡ ends_of (take i segments) ++ (get_or segments i d).a ∷ (get_or segments i d).b ∷ []
+ends_of-more segments i d within = ap ends_of (take_more segments i d within) ∙ ends_of-append (take i segments) (get_or segments i d ∷ [])
+
+-- in the form of two pushes
+pub ends_pushed : (segments : List Segment) (i : ℕ) (d : Segment) (ends : List Point) → i < length segments → ends ≡ ends_of (take i segments) →
+    (ends ++ (get_or segments i d).a ∷ []) ++ (get_or segments i d).b ∷ [] ≡ ends_of (take (i + 1) segments)
+ends_pushed segments i d ends within same =
+    append_assoc ends ((get_or segments i d).a ∷ []) ((get_or segments i d).b ∷ []) ∙ ap (λ l. l ++ (get_or segments i d).a ∷ (get_or segments i d).b ∷ []) same ∙ sym (ends_of-more segments i d within)
 
 -- 1 where q is the place v, else 0
 unfoldable pub one_at : Point → Point → ℕ
@@ -40,7 +55,7 @@ one_at-other v q ne = ⊎_elim (λ same. absurd (ne same.0)) (λ other. other.1)
 one_at-is : (v q : Point) → v ≡ q → one_at v q ≡ 1
 one_at-is v q e = ⊎_elim (λ same. same.1) (λ other. absurd (other.0 e)) (one_at_cases v q)
 
-count-cons : (v q : Point) (places : List Point) → count_by (is_place v) (q ∷ places) ≡ one_at v q + count_by (is_place v) places
+pub count-cons : (v q : Point) (places : List Point) → count_by (is_place v) (q ∷ places) ≡ one_at v q + count_by (is_place v) places
 unfolding one_at
 count-cons v q places = sum_by-cons (λ p. cond (is_place v p) 1 0) q places
 
@@ -70,11 +85,6 @@ degree-by_sum (s ∷ segments) v = omega (arith, degree-cons s segments v, sum_b
 pub degree-IsPermutation : (xs ys : List Segment) (v : Point) → IsPermutation xs ys → degree ys v ≡ degree xs v
 degree-IsPermutation xs ys v moved = degree-by_sum ys v ∙ sum_by-IsPermutation (ends_at v) xs ys moved ∙ sym (degree-by_sum xs v)
 
-pub degree-by_counts : (segments : List Segment) (v : Point) → degree segments v ≡ count_by (λ (s : Segment). is_place v s.a) segments + count_by (λ (s : Segment). is_place v s.b) segments
-unfolding one_at
-degree-by_counts [] v = omega arith
-degree-by_counts (s ∷ segments) v = omega (arith, degree-cons s segments v, degree-by_counts segments v, sum_by-cons (λ (s : Segment). cond (is_place v s.a) 1 0) s segments, sum_by-cons (λ (s : Segment). cond (is_place v s.b) 1 0) s segments)
-
 -- no end lies at v where none of each segment does
 pub degree-none : (segments : List Segment) (v : Point) → All (λ (s : Segment). (s.a ≢ v) × (s.b ≢ v)) segments → degree segments v ≡ 0
 degree-none [] v none = refl
@@ -84,14 +94,14 @@ degree-none (s ∷ segments) v none =
     omega (arith, degree-cons s segments v, one_at-other v s.a (λ e. here.0 (sym e)), one_at-other v s.b (λ e. here.1 (sym e)), degree-none segments v (All-tail P s segments none))
 
 -- an end that is there counts
-count_pos : (places : List Point) (v : Point) → Contains places v → zero < count_by (is_place v) places
+pub count_pos : (places : List Point) (v : Point) → Contains places v → zero < count_by (is_place v) places
 count_pos [] v among = absurd (Contains-none v among)
 count_pos (q ∷ places) v among = ⊎_elim
     (λ first. omega (arith, count-cons v q places, one_at-is v q (sym first)))
     (λ later. omega (arith, count-cons v q places, count_pos places v later))
     (Contains-cases q v places among)
 
-count_found : (places : List Point) (v : Point) → zero < count_by (is_place v) places → Contains places v
+pub count_found : (places : List Point) (v : Point) → zero < count_by (is_place v) places → Contains places v
 count_found [] v some = absurd (omega arith)
 count_found (q ∷ places) v some = ⊎_elim
     (λ same. subst (λ p. Contains (q ∷ places) p) (sym same.0) (Contains-head q places))
@@ -118,17 +128,3 @@ pub degree-none_more : (segments : List Segment) (i : ℕ) (v : Point) (d : Segm
 unfolding ends_at
 degree-none_more segments i v d within none not_a not_b =
     omega (arith, degree-by_sum (take (i + 1) segments) v, degree-by_sum (take i segments) v, sum_by_more (ends_at v) segments i d within, one_at-other v (get_or segments i d).a (λ e. not_a (sym e)), one_at-other v (get_or segments i d).b (λ e. not_b (sym e)))
-
--- what holds at both ends of each segment holds at all ends
-pub All-ends_of : (P : Point → Type 0) (segments : List Segment) → All (λ (s : Segment). P s.a × P s.b) segments → All P (ends_of segments)
-All-ends_of P [] each = All-nil P
-All-ends_of P (s ∷ segments) each =
-    let Q : Segment → Type 0 = λ (x : Segment). P x.a × P x.b in
-    let here = All-head Q s segments each in
-    All-cons P s.a (s.b ∷ ends_of segments) here.0 (All-cons P s.b (ends_of segments) here.1 (All-ends_of P segments (All-tail Q s segments each)))
-
-pub All-from_ends_of : (P : Point → Type 0) (segments : List Segment) → All P (ends_of segments) → All (λ (s : Segment). P s.a × P s.b) segments
-All-from_ends_of P [] all = All-nil (λ (s : Segment). P s.a × P s.b)
-All-from_ends_of P (s ∷ segments) all =
-    let later = All-tail P s.a (s.b ∷ ends_of segments) all in
-    All-cons (λ (x : Segment). P x.a × P x.b) s segments (All-head P s.a (s.b ∷ ends_of segments) all, All-head P s.b (ends_of segments) later) (All-from_ends_of P segments (All-tail P s.b (ends_of segments) later))

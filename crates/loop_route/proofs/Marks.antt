@@ -1,9 +1,8 @@
 -- The mark vertex: which ends it comes before.
-use Rattle.std.proofs.Common.{arith, ◌≡◌, ◌⊎◌, inl, inr, ⊎_elim, ℕ, ◌+◌, ◌<◌, List, [], ◌∷◌, ◌++◌, length, Contains, get_or, take, ap, subst, ◌∙◌, sym, refl}
+use Rattle.std.proofs.Common.{arith, ◌≡◌, ◌⊎◌, inl, inr, ⊎_elim, ℕ, ◌+◌, ◌<◌, List, [], ◌∷◌, length, Contains, get_or, take, subst, ◌∙◌, sym, refl}
 use Rattle.std.proofs.lemmas.Int.{ints}
-use Rattle.std.proofs.lemmas.List.{take_more}
 use Rattle.std.proofs.lemmas.List.Elements.{Contains-append_cases, Contains-get_or}
-use Rattle.loop_route.proofs.Degrees.{degree_pos, end_from_degree}
+use Rattle.loop_route.proofs.Degrees.{ends_of-more, degree_pos, end_from_degree}
 use Rattle.nest_base.specs.declared.places.Point.{Point}
 use Rattle.nest_base.specs.declared.places.Segment.{Segment}
 use Rattle.loop_route.specs.Ends.{ends_of}
@@ -29,20 +28,15 @@ not_after_further p q v (inl a) b = subst (λ r. IsNotAfter r v) a b
 not_after_further p q v (inr a) (inl b) = inr (subst (λ r. IsMarkedBefore p r) (sym b) a)
 not_after_further p q v (inr a) (inr b) = inr (before_further p q v a b)
 
-ends_of-append : (xs ys : List Segment) → ends_of (xs ++ ys) ≡ ends_of xs ++ ends_of ys
-ends_of-append [] ys = refl
-ends_of-append (s ∷ xs) ys = ap (λ later. s.a ∷ s.b ∷ later) (ends_of-append xs ys)
-
 -- an end of the first i + 1 segments is one of the first i, or one of the last
 last_ends : (segments : List Segment) (i : ℕ) (v : Point) (d : Segment) → i < length segments → Contains (ends_of (take (i + 1) segments)) v →
     Contains (ends_of (take i segments)) v ⊎ (((get_or segments i d).a ≡ v) ⊎ ((get_or segments i d).b ≡ v))
 last_ends segments i v d within among =
     let s = get_or segments i d in
-    let ends = ap ends_of (take_more segments i d within) ∙ ends_of-append (take i segments) (s ∷ []) in
     ⊎_elim
     (λ before. inl before)
     (λ last. ⊎_elim (λ a. inr (inl a)) (λ later. ⊎_elim (λ b. inr (inr b)) (λ none. absurd (Contains-none v none)) (Contains-cases s.b v [] later)) (Contains-cases s.a v (s.b ∷ []) last))
-    (Contains-append_cases (ends_of (take i segments)) (s.a ∷ s.b ∷ []) v (subst (λ l. Contains l v) ends among))
+    (Contains-append_cases (ends_of (take i segments)) (s.a ∷ s.b ∷ []) v (subst (λ l. Contains l v) (ends_of-more segments i d within) among))
 
 -- one segment more
 pub first_of_more : (segments : List Segment) (i : ℕ) (d : Segment) (p r : Point) → i < length segments → IsFirstOf (take i segments) p → IsNotAfter r p → IsNotAfter r (get_or segments i d).a → IsNotAfter r (get_or segments i d).b → IsFirstOf (take (i + 1) segments) r

@@ -1,10 +1,11 @@
 //! The ends of segments: which segments have an end at a place, and how many.
-ghost use Rattle.std.specs.Prelude.{◌≡◌, ◌≢◌, IsTrue, ◌↔◌, All, IfSome, IfNone, count_by};
+ghost use Rattle.std.specs.Prelude.{◌≡◌, ◌≢◌, IsTrue, ◌↔◌, All, IfOk, IfSome, IfNone, IsSorted};
 ghost use Rattle.nest_base.specs.HalfEdges.{IsHalfEdgeOf};
-ghost use Rattle.loop_route.specs.Ends.{degree, ends_of, is_place, half_edge};
+ghost use Rattle.loop_route.specs.Ends.{degree, ends_of, AreInTwos, IsRun, half_edge};
 ghost use Rattle.loop_route.specs.Trails.{IsFollowedAt};
 
-use nest_base::{Point, Segment};
+use nest_base::{OutOfMemory, Point, Segment};
+use std::alloc::Global;
 
 /// A segment that leads on from a place: its index, and the end that it leads to.
 #[derive(Clone, Copy, Drop)]
@@ -47,46 +48,50 @@ pub fn none_is_empty(segments: &[Segment]) -> bool
     segments.iter().all(|s| s.a != s.b)
 }
 
-/// How many segments have their first end at `v`.
-fn first_ends_at(segments: &[Segment], v: Point) -> usize
-    ensures { result ≡ count_by (λ s. is_place v s.a) segments.now }
+/// Both ends of each segment, in order.
+fn list_ends(alloc: Global, segments: &[Segment]) -> Result<Vec<Point>, OutOfMemory>
+    ensures { IfOk result (λ places. places.items ≡ ends_of segments.now) }
 {
-    segments.iter().filter(|s| v == s.a).count()
-}
-
-/// How many segments have their second end at `v`.
-fn second_ends_at(segments: &[Segment], v: Point) -> usize
-    ensures { result ≡ count_by (λ s. is_place v s.b) segments.now }
-{
-    segments.iter().filter(|s| v == s.b).count()
-}
-
-/// Whether exactly two ends of segments lie at `v`.
-fn is_shared_by_two(segments: &[Segment], v: Point) -> bool
-    ensures { IsTrue result ↔ (degree segments.now v ≡ 2) }
-{
-    let first = first_ends_at(segments, v);
-    if first > 2 {
-        return false;
+    let mut places = Vec::with_capacity(alloc, 2 * segments.len())?;
+    for s in segments {
+        places.push(s.a)?;
+        places.push(s.b)?;
     }
-    second_ends_at(segments, v) == 2 - first
+    Ok(places)
 }
 
-/// Whether both ends of `s` are ends of exactly two of the segments.
-fn both_are_shared_by_two(segments: &[Segment], s: &Segment) -> bool
-    ensures { IsTrue result ↔ ((degree segments.now s.now.a ≡ 2) × (degree segments.now s.now.b ≡ 2)) }
+/// How many of these places, from the first one on, are equal.
+fn equal_in_front(places: &[Point]) -> usize
+    ensures { IsRun places.now result }
 {
-    is_shared_by_two(segments, s.a) && is_shared_by_two(segments, s.b)
+    for (index, p) in places.iter().enumerate() {
+        if *p != places[0] {
+            return index;
+        }
+    }
+    places.len()
+}
+
+/// Whether each of these sorted places stands among them exactly twice.
+fn are_in_twos(places: &[Point]) -> bool
+    requires { IsSorted ⟦<Point as Ord>⟧.cmp places.now }
+    ensures { IsTrue result ↔ AreInTwos places.now }
+{
+    let mut rest = places;
+    // Equal places are neighbours, so all that are like the first one stand in front.
+    while equal_in_front(rest) == 2 {
+        rest = &rest[2..];
+    }
+    rest.is_empty()
 }
 
 /// Whether each end of a segment is an end of exactly two of them.
-pub fn all_are_shared_by_two(segments: &[Segment]) -> bool
-    ensures { IsTrue result ↔ All (λ v. degree segments.now v ≡ 2) (ends_of segments.now) }
+///
+/// Takes **O(n log n)** for n segments, and memory for 2n places, which is given back.
+pub fn all_are_shared_by_two(alloc: Global, segments: &[Segment]) -> Result<bool, OutOfMemory>
+    ensures { IfOk result (λ shared. IsTrue shared ↔ All (λ v. degree segments.now v ≡ 2) (ends_of segments.now)) }
 {
-    for s in segments {
-        if !both_are_shared_by_two(segments, s) {
-            return false;
-        }
-    }
-    true
+    let mut places = list_ends(alloc, segments)?;
+    places.sort_unstable();
+    Ok(are_in_twos(&places))
 }

@@ -16,8 +16,9 @@ use std::alloc::Global;
 /// They are one where at least three, none of length zero, are joined at their ends, two at each, and share no other
 /// point. The mark vertex is the westernmost one, or of several of them the northernmost. Coordinates are micrometres.
 ///
-/// Takes **O(n²)** for n segments, and memory for the segments once more and for n + 1 places; `OutOfMemory` comes for
-/// want of it alone.
+/// Takes **O(n log n)** for n segments where an end isn't shared by exactly two. Where each is, the segments are compared in
+/// pairs and followed, in **O(n²)**. Memory is taken for the 2n ends, and once these are given back, for the segments once more
+/// and for n + 1 places; `OutOfMemory` comes for want of it alone.
 pub fn route_round(alloc: Global, segments: &[Segment]) -> Result<Option<Vec<Point>>, OutOfMemory>
     requires within { All (λ s. IsSegmentWithin 2000000000 s) segments.now }
     ensures route { IfOk result (λ found. IfSome found (λ places. IsRoute segments.now places.items)) }
@@ -31,7 +32,7 @@ pub fn route_round(alloc: Global, segments: &[Segment]) -> Result<Option<Vec<Poi
     if !none_is_empty(segments) {
         return Ok(None);
     }
-    if !all_are_shared_by_two(segments) {
+    if !all_are_shared_by_two(alloc, segments)? {
         return Ok(None);
     }
     if !all_meet_at_ends_only(segments) {

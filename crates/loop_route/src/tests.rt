@@ -122,6 +122,36 @@ fn others_have_none(rt: HostRuntime) -> Result<()> {
         [0, 10, 0, 0],
     ];
     let repeated = [[0, 0, 10, 0], [10, 0, 5, 5], [5, 5, 0, 0], [0, 0, 10, 0]];
+    // A triangle within a square, and another one beside it: each end belongs to two segments.
+    let three_loops = [
+        [0, 0, 20, 0],
+        [20, 0, 20, 20],
+        [20, 20, 0, 20],
+        [0, 20, 0, 0],
+        [5, 5, 9, 5],
+        [9, 5, 5, 8],
+        [5, 8, 5, 5],
+        [30, 0, 34, 0],
+        [34, 0, 30, 3],
+        [30, 3, 30, 0],
+    ];
+    // A square and its diagonal: three segments end at (0, 0), and three at (10, 10).
+    let three_ends = [
+        [0, 0, 10, 0],
+        [10, 0, 10, 10],
+        [10, 10, 0, 10],
+        [0, 10, 0, 0],
+        [0, 0, 10, 10],
+    ];
+    // Two triangles with a common vertex, where four segments end.
+    let four_ends = [
+        [0, 0, 4, 0],
+        [4, 0, 0, 3],
+        [0, 3, 0, 0],
+        [0, 0, -4, 0],
+        [-4, 0, 0, -3],
+        [0, -3, 0, 0],
+    ];
     let one_place = [[0, 0, 0, 0], [0, 0, 0, 0], [0, 0, 0, 0]];
     for (name, ends) in [
         ("none", none.as_slice()),
@@ -132,6 +162,9 @@ fn others_have_none(rt: HostRuntime) -> Result<()> {
         ("point beside", point_beside.as_slice()),
         ("pinched", pinched.as_slice()),
         ("repeated", repeated.as_slice()),
+        ("three loops", three_loops.as_slice()),
+        ("three ends", three_ends.as_slice()),
+        ("four ends", four_ends.as_slice()),
         ("one place", one_place.as_slice()),
     ] {
         let segments = segments_of(rt.alloc(), ends)?;
