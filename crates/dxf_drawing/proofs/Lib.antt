@@ -1,4 +1,7 @@
-pub mod FirstLines
-pub mod FirstPairs
-pub mod TextEnd
-pub mod Places
+pub mod Entities
+pub mod Lasts
+pub mod Growth
+pub mod Rooms
+pub mod Holding
+pub mod Turns
+pub mod Readings

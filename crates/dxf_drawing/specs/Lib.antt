@@ -1,5 +1,6 @@
-pub mod Steps
-pub mod Numbers
-pub mod Lines
-pub mod Pairs
-pub mod Entities
+pub mod Gifts
+pub mod Standings
+pub mod Drawings
+pub mod Kept
+pub mod Contents
+pub mod Reading

@@ -1,19 +1,16 @@
-//! Drawings: the segments of a DXF file.
+//! Drawings: from the bytes of a file to its segments and names.
 //!
-//! It takes plain files, a small profile of ASCII DXF R12: each line ends with LF and has no CR, blank or tab, and the lines are
-//! a group code and its value in turn. The part of entities is all that stands in the file, with at most 1,000 LINE entities of
-//! six groups each. Numbers are millimetres with up to three decimals, and are kept exactly, as whole micrometres.
-//!
-//! The bytes are gone over in **O(n)** time, and memory is taken for the segments alone. This layer stands on `nest_base`, and
-//! the layers above cut and join the segments that it gives.
+//! A drawing is an ASCII file after the Autodesk DXF R12 reference. Its entities stand in parts of entities; LINE, POLYLINE with
+//! its VERTEX entities, and TEXT are read, and any other entity there is refused. Everything else is passed over. The reader keeps
+//! one line, one entity and the drawing so far. Reading takes **O(n)** time for n bytes.
 #![tactic(auto)]
 
-mod entities;
-mod lines;
-mod numbers;
-mod pairs;
-pub mod plain;
-#[cfg(test)]
-mod tests;
+mod contents;
+pub mod examples;
+mod kept;
+pub mod read;
+mod reader;
+pub mod standing;
 
-pub use plain::{PlainError, read_plain};
+pub use dxf_entities::{DrawingError, Kind, Label};
+pub use read::read_drawing;

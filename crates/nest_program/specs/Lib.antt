@@ -1,4 +1,6 @@
 pub mod Words
 pub mod Promise
 pub mod Outputs
+pub mod FaultText
 pub mod Statuses
+pub mod Reasons

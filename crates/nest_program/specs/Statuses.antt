@@ -1,24 +1,32 @@
 -- What each status says of a run.
-use Rattle.std.specs.Prelude.{◌≡◌, ◌≢◌, ◌⊎◌, ℕ, ◌^◌, ◌<◌, ◌≤◌, List, [], length, ⊤, codes, Some, None}
+use Rattle.std.specs.Prelude.{◌≡◌, ◌≢◌, ◌⊎◌, ℕ, ◌^◌, ◌<◌, ◌≤◌, List, [], ◌++◌, length, ⊤, codes, Some, None}
 use Rattle.cut_desk.specs.Outside.{Outside, Rose, SameHeld, IsPartlyWritten, IsPartlyPrinted, made_of, print_more}
-use Rattle.nest_base.specs.declared.places.Segment.{Segment}
 use Rattle.code_moves.specs.Meaning.{code_refusal_of, moves_of}
-use Rattle.dxf_drawing.specs.Entities.{plain_segments}
-use Rattle.nest_program.specs.Outputs.{IsAccepted, IsRefused, IsOutput}
+use Rattle.dxf_entities.specs.declared.error.DrawingError.TheVariants.{OutOfMemory}
+use Rattle.dxf_drawing.specs.Drawings.{segments_of, read_refusal_of}
+use Rattle.nest_program.specs.FaultText.{reading_text}
+use Rattle.nest_program.specs.Outputs.{IsAccepted, IsNoLoop, IsOutput}
 use Rattle.nest_program.specs.Promise.{IsOrderEnclosingPlan}
-use Rattle.nest_program.specs.declared.status.Early.TheVariants.{NotPlain, NotOneLoop}
+use Rattle.nest_program.specs.declared.status.Early.TheVariants.{NotOneLoop}
+use Rattle.nest_program.specs.declared.status.Refusal.{Refusal}
+use Rattle.nest_program.specs.declared.status.Refusal.TheVariants.{Reading}
 use Rattle.nest_program.specs.declared.status.Status.{Status}
-use Rattle.nest_program.specs.declared.status.Status.TheVariants.{Done, Words, ReadFault, TooLong, Early, WriteFault, PrintFault, Memory}
+use Rattle.nest_program.specs.declared.status.Status.TheVariants.{Done, Words, ReadFault, TooLong, Drawing, Early, WriteFault, PrintFault, Memory}
 
 abbrev pub exit_code_of : Status → ℕ
 exit_code_of Done = 0
 exit_code_of Words = 2
 exit_code_of ReadFault = 3
 exit_code_of TooLong = 3
+exit_code_of (Drawing refusal) = 4
 exit_code_of (Early early) = 4
 exit_code_of WriteFault = 5
 exit_code_of PrintFault = 5
 exit_code_of Memory = 6
+
+-- the line of a refused drawing
+abbrev pub refusal_text : Refusal → List ℕ
+refusal_text (Reading e) = reading_text e ++ codes "\n"
 
 -- the line that is printed for a status
 abbrev pub fault_text : Status → List ℕ
@@ -26,16 +34,21 @@ fault_text Done = []
 fault_text Words = codes "usage: plan IN OUT\n"
 fault_text ReadFault = codes "read fault\n"
 fault_text TooLong = codes "file too long\n"
-fault_text (Early NotPlain) = codes "refused not plain\n"
+fault_text (Drawing refusal) = refusal_text refusal
 fault_text (Early NotOneLoop) = codes "refused not one loop\n"
 fault_text WriteFault = codes "write fault\n"
 fault_text PrintFault = []
 fault_text Memory = codes "out of memory\n"
 
+-- the drawing is refused, and for this reason first
+abbrev pub IsRefused : List ℕ → Refusal → Type 0
+IsRefused file (Reading e) = (read_refusal_of file ≡ Some e) × (e ≢ OutOfMemory)
+
 -- what a status says of the drawing in IN: with every status but a read fault and want of memory it's decided
 abbrev pub IsDecided : Status → List ℕ → Type 0
 IsDecided TooLong file = 2 ^ 26 < length file
-IsDecided (Early early) file = (length file ≤ 2 ^ 26) × IsRefused file early
+IsDecided (Drawing refusal) file = (length file ≤ 2 ^ 26) × IsRefused file refusal
+IsDecided (Early NotOneLoop) file = (length file ≤ 2 ^ 26) × IsNoLoop file
 IsDecided Done file = (length file ≤ 2 ^ 26) × IsAccepted file
 IsDecided WriteFault file = (length file ≤ 2 ^ 26) × IsAccepted file
 IsDecided PrintFault file = (length file ≤ 2 ^ 26) × IsAccepted file
@@ -70,14 +83,13 @@ OutputIs status drawing output old new = ⊤
 
 -- the promise is kept for what was read from IN, written to OUT and printed
 pub record KeepsPromise (drawing output : List ℕ) (old new : Outside) : Type 0 where
-  pub segments : List Segment
-  pub read : plain_segments drawing ≡ Some segments
+  pub accepted : read_refusal_of drawing ≡ None
   pub code : List ℕ
   pub written : new.held output ≡ made_of (old.held output) code
   pub has_no_fault : code_refusal_of code ≡ None
   pub report : List ℕ
   pub printed : new.printed ≡ print_more old.printed report
-  pub promise : IsOrderEnclosingPlan segments (moves_of code) report
+  pub promise : IsOrderEnclosingPlan (segments_of drawing) (moves_of code) report
 
 -- which files may have changed: none, or OUT alone
 abbrev pub OthersSame : List ℕ → Outside → Outside → Type 0

@@ -5,6 +5,8 @@
 //! `run` and exits with the status's code.
 #![tactic(auto)]
 
+pub mod fault_line;
+pub mod line;
 pub mod output;
 pub mod report;
 pub mod run;

@@ -1,12 +1,13 @@
 //! From the bytes of a drawing to the code and the report, all in memory.
-ghost use Rattle.std.specs.Prelude.{◌≡◌, ◌≤◌, ◌∷◌, [], length, IfOk, IsErrOf};
+ghost use Rattle.std.specs.Prelude.{◌≡◌, ◌≤◌, ◌^◌, ◌∷◌, [], length, IfOk, IfErr};
 ghost use Rattle.code_moves.specs.CodeText.{code_text};
-ghost use Rattle.nest_program.specs.Outputs.{IsRefused, IsOutput};
+ghost use Rattle.nest_program.specs.Outputs.{IsOutput};
+ghost use Rattle.nest_program.specs.Reasons.{IsReason};
 ghost use Rattle.nest_program.specs.declared.output.PlanError.TheVariants.{OutOfMemory as NoMemory};
 
 use crate::report::put_loop_report;
-use crate::status::Early;
-use dxf_drawing::{PlainError, read_plain};
+use crate::status::{Early, Refusal};
+use dxf_drawing::{DrawingError, read_drawing};
 use loop_route::route_round;
 use nest_base::{OutOfMemory, Point, Text};
 use ngc_writer::{write_chain, write_head, write_tail};
@@ -21,10 +22,12 @@ pub struct Output {
 }
 
 /// Why a drawing gives no output.
-#[derive(Clone, Copy, Debug, PartialEq, Eq, Drop, Error)]
+#[derive(Debug, Drop, Error)]
 pub enum PlanError {
+    #[error("the drawing is refused")]
+    Refused(Refusal),
     #[error("the drawing isn't planned")]
-    Refused(Early),
+    Early(Early),
     #[error("out of memory")]
     OutOfMemory,
 }
@@ -51,17 +54,17 @@ fn code_of(alloc: Global, places: &[Point]) -> Result<Text, OutOfMemory>
 
 /// The code and the report of a drawing, or why it gives none.
 pub fn output_of(alloc: Global, bytes: &[u8]) -> Result<Output, PlanError>
+    requires few { length bytes.now ≤ 2 ^ 26 }
     ensures ok { IfOk result (λ output. IsOutput bytes.now output.code output.report) }
-    ensures not_plain { IsErrOf result (PlanError.Refused Early.NotPlain) → IsRefused bytes.now Early.NotPlain }
-    ensures not_one_loop { IsErrOf result (PlanError.Refused Early.NotOneLoop) → IsRefused bytes.now Early.NotOneLoop }
+    ensures refused { IfErr result (λ why. IsReason why bytes.now) }
 {
-    let drawing = match read_plain(alloc, bytes) {
+    let drawing = match read_drawing(alloc, bytes) {
         Ok(drawing) => drawing,
-        Err(PlainError::NotPlain) => return Err(PlanError::Refused(Early::NotPlain)),
-        Err(PlainError::OutOfMemory) => return Err(PlanError::OutOfMemory),
+        Err(DrawingError::OutOfMemory) => return Err(PlanError::OutOfMemory),
+        Err(why) => return Err(PlanError::Refused(Refusal::Reading(why))),
     };
     let Some(places) = route_round(alloc, drawing.segments())? else {
-        return Err(PlanError::Refused(Early::NotOneLoop));
+        return Err(PlanError::Early(Early::NotOneLoop));
     };
     let code = code_of(alloc, places.as_slice())?;
     let mut report = Text::new(alloc);

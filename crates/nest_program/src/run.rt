@@ -4,8 +4,9 @@ ghost use Rattle.cut_desk.specs.Outside.{Later, SameHeld, WhereTold};
 ghost use Rattle.nest_program.specs.Words.{plan_of};
 ghost use Rattle.nest_program.specs.Statuses.{IsDecided, HasCause, NoFaultRose, IsComplete, FilesAre, KeepsPromise, OutputIs, IsQuiet, IsFaultLine, PrintsLine};
 
+use crate::fault_line::fault_line;
 use crate::output::{PlanError, output_of};
-use crate::status::{Status, fault_line};
+use crate::status::Status;
 use crate::words::plan_words;
 use cut_desk::{Desk, ReadError, print_whole, read_whole, write_whole};
 use std::alloc::Global;
@@ -33,7 +34,8 @@ fn plan<D: Desk>(alloc: Global, desk: &mut D, input: &str, output: &str) -> Stat
     };
     let planned = match output_of(alloc, &drawing) {
         Ok(planned) => planned,
-        Err(PlanError::Refused(early)) => return Status::Early(early),
+        Err(PlanError::Refused(refusal)) => return Status::Drawing(refusal),
+        Err(PlanError::Early(early)) => return Status::Early(early),
         Err(PlanError::OutOfMemory) => return Status::Memory,
     };
     if write_whole(desk, output, planned.code.as_slice()).is_err() {
@@ -46,12 +48,13 @@ fn plan<D: Desk>(alloc: Global, desk: &mut D, input: &str, output: &str) -> Stat
 }
 
 /// Prints the line of a status. Where that fails, the status stays.
-fn print_fault_line<D: Desk>(desk: &mut D, status: Status)
-    ensures line { IsFaultLine status (D.seen desk.old) (D.seen desk.new) }
+fn print_fault_line<D: Desk>(desk: &mut D, status: &Status)
+    ensures line { IsFaultLine status.now (D.seen desk.old) (D.seen desk.new) }
     ensures files { SameHeld (D.seen desk.old) (D.seen desk.new) }
     ensures later { Later (D.seen desk.old) (D.seen desk.new) }
 {
-    let _ = print_whole(desk, fault_line(status));
+    let line = fault_line(status);
+    let _ = print_whole(desk, line.as_slice());
 }
 
 /// Runs the words, those after the program's own name: `plan IN OUT`.
@@ -87,12 +90,12 @@ pub fn run<D: Desk>(alloc: Global, words: &[String], desk: &mut D) -> Status
     ensures line { PrintsLine result (D.seen desk.old) (D.seen desk.new) }
 {
     let Some(files) = plan_words(words) else {
-        print_fault_line(desk, Status::Words);
+        print_fault_line(desk, &Status::Words);
         return Status::Words;
     };
     let status = plan(alloc, desk, files.input, files.output);
-    if status != Status::Done && status != Status::PrintFault {
-        print_fault_line(desk, status);
+    if !matches!(status, Status::Done | Status::PrintFault) {
+        print_fault_line(desk, &status);
     }
     status
 }

@@ -1,18 +1,25 @@
-//! How a run ends: its status, the exit code and the printed line.
+//! How a run ends: its status, and the exit code.
 ghost use Rattle.std.specs.Prelude.{◌≡◌};
-ghost use Rattle.nest_program.specs.Statuses.{exit_code_of, fault_text};
+ghost use Rattle.nest_program.specs.Statuses.{exit_code_of};
+
+use dxf_drawing::DrawingError;
+
+/// Why a drawing is refused.
+#[derive(Debug, Drop)]
+pub enum Refusal {
+    /// It can't be read.
+    Reading(DrawingError),
+}
 
 /// Why a drawing that was read isn't planned, as long as one simple closed loop is all that is.
 #[derive(Clone, Copy, Debug, PartialEq, Eq, Drop)]
 pub enum Early {
-    /// The file isn't plain.
-    NotPlain,
-    /// The file is plain, and its segments aren't one simple closed loop.
+    /// Its segments aren't one simple closed loop.
     NotOneLoop,
 }
 
 /// How a run ends.
-#[derive(Clone, Copy, Debug, PartialEq, Eq, Drop)]
+#[derive(Debug, Drop)]
 pub enum Status {
     /// The code was written and the report printed.
     Done,
@@ -22,6 +29,8 @@ pub enum Status {
     ReadFault,
     /// The drawing has more than 67,108,864 bytes.
     TooLong,
+    /// The drawing is refused.
+    Drawing(Refusal),
     /// The drawing isn't planned yet.
     Early(Early),
     /// The code couldn't be written.
@@ -41,25 +50,9 @@ impl Status {
             Status::Done => 0,
             Status::Words => 2,
             Status::ReadFault | Status::TooLong => 3,
-            Status::Early(_) => 4,
+            Status::Drawing(_) | Status::Early(_) => 4,
             Status::WriteFault | Status::PrintFault => 5,
             Status::Memory => 6,
         }
-    }
-}
-
-/// The line that is printed for a status, with its LF; none for `Done` and `PrintFault`.
-pub fn fault_line(status: Status) -> &'static [u8]
-    ensures { result.now ≡ fault_text status }
-{
-    match status {
-        Status::Done | Status::PrintFault => b"",
-        Status::Words => b"usage: plan IN OUT\n",
-        Status::ReadFault => b"read fault\n",
-        Status::TooLong => b"file too long\n",
-        Status::Early(Early::NotPlain) => b"refused not plain\n",
-        Status::Early(Early::NotOneLoop) => b"refused not one loop\n",
-        Status::WriteFault => b"write fault\n",
-        Status::Memory => b"out of memory\n",
     }
 }

@@ -1,58 +1,32 @@
-ghost use Rattle.std.specs.Prelude.{◌<◌};
+mod counts;
+mod loops;
+mod planned;
+mod refused;
 
 use crate::run::run;
 use crate::status::{Early, Status};
 use anyhow::{Result, ensure};
 use cut_desk::MemoryDesk;
 use std::alloc::{AllocError, Global};
+use std::str;
 
-const SQUARE: [&str; 4] = [
-    "0.0 0.0 10.0 0.0",
-    "10.0 0.0 10.0 10.0",
-    "10.0 10.0 0.0 10.0",
-    "0.0 10.0 0.0 0.0",
-];
+/// How a part of entities begins.
+const HEAD: &str = "0=SECTION|2=ENTITIES";
 
-/// Drawings that are plain files, and no loop.
-const NO_LOOPS: [(&str, &[&str]); 10] = [
-    ("no line at all", &[]),
-    ("a line there and back", &["0 0 1 0", "1 0 0 0"]),
-    ("an open square", &["0 0 9 0", "9 0 9 9", "9 9 0 9"]),
-    ("a bow-tie", &["0 0 4 4", "4 4 4 0", "4 0 0 4", "0 4 0 0"]),
-    (
-        "a vertex on another edge",
-        &["0 0 4 0", "4 0 4 4", "4 4 2 0", "2 0 0 4", "0 4 0 0"],
-    ),
-    (
-        "two triangles",
-        &[
-            "0 0 1 0", "1 0 0 1", "0 1 0 0", "5 0 6 0", "6 0 5 1", "5 1 5 0",
-        ],
-    ),
-    (
-        "two triangles that touch",
-        &[
-            "0 0 1 0",
-            "1 0 0 1",
-            "0 1 0 0",
-            "0 0 -1 0",
-            "-1 0 0 -1",
-            "0 -1 0 0",
-        ],
-    ),
-    (
-        "a line of no length",
-        &["0 0 9 0", "9 0 9 9", "9 9 0 9", "0 9 0 0", "9 0 9 0"],
-    ),
-    (
-        "three lines of no length",
-        &["0 0 0 0", "0 0 0 0", "0 0 0 0"],
-    ),
-    (
-        "a repeated line",
-        &["0 0 9 0", "9 0 9 9", "9 9 0 9", "0 9 0 0", "9 0 0 0"],
-    ),
-];
+/// How it ends, and the drawing with it.
+const TAIL: &str = "0=ENDSEC|0=EOF";
+
+/// A square of four lines.
+const SQUARE: &str = "0=LINE|8=0|10=0.0|20=0.0|11=10.0|21=0.0|\
+    0=LINE|8=0|10=10.0|20=0.0|11=10.0|21=10.0|\
+    0=LINE|8=0|10=10.0|20=10.0|11=0.0|21=10.0|\
+    0=LINE|8=0|10=0.0|20=10.0|11=0.0|21=0.0";
+
+const SQUARE_CODE: &str = "G21 G90\nF1000 S1\nG0 X0.000 Y10.000\nM3\n\
+    G1 X10.000 Y10.000\nG1 X10.000 Y0.000\nG1 X0.000 Y0.000\nG1 X0.000 Y10.000\nM5\nM2\n";
+
+const SQUARE_REPORT: &str =
+    "component 1 edges 4 odd 0 bound 1 limit 1 pierces 1\ntotal pierces 1 bound 1\nfewest\n";
 
 fn words_of(alloc: Global, texts: &[&str]) -> Result<Vec<String>, AllocError> {
     let mut words = Vec::new(alloc);
@@ -62,34 +36,39 @@ fn words_of(alloc: Global, texts: &[&str]) -> Result<Vec<String>, AllocError> {
     Ok(words)
 }
 
-/// A plain file of lines, each given as x and y of its two ends.
-fn drawing_of(alloc: Global, lines: &[&str]) -> Result<String, AllocError> {
-    let mut text = String::from_str(alloc, "0\nSECTION\n2\nENTITIES\n")?;
-    for line in lines {
-        text.push_str("0\nLINE\n8\n0\n")?;
-        for (code, number) in ["10", "20", "11", "21"].iter().zip(line.split(' ')) {
-            text.push_str(code)?;
-            text.push_str("\n")?;
-            text.push_str(number)?;
-            text.push_str("\n")?;
+/// Appends a text with this end of a line in the place of each `=` and `|`.
+fn put_lines(text: &str, end: &str, out: &mut Vec<u8>) -> Result<(), AllocError> {
+    for byte in text.as_bytes() {
+        if *byte == b'=' || *byte == b'|' {
+            out.extend_from_slice(end.as_bytes())?;
+        } else {
+            out.push(*byte)?;
         }
     }
-    text.push_str("0\nENDSEC\n0\nEOF\n")?;
-    Ok(text)
+    Ok(())
+}
+
+/// The file of these pairs, each written as `CODE=VALUE`, with `|` between two of them.
+fn file_of(alloc: Global, pieces: &[&str], end: &str) -> Result<Vec<u8>, AllocError> {
+    let mut file = Vec::new(alloc);
+    for pairs in pieces {
+        put_lines(pairs, end, &mut file)?;
+        file.extend_from_slice(end.as_bytes())?;
+    }
+    Ok(file)
+}
+
+/// The file of the square.
+fn square_file(alloc: Global) -> Result<Vec<u8>, AllocError> {
+    file_of(alloc, &[HEAD, SQUARE, TAIL], "\n")
 }
 
 /// A desk with the drawing in `a.dxf`, and room for the code and for what is printed.
-fn desk_with(alloc: Global, drawing: &str) -> Result<MemoryDesk> {
+fn desk_with(alloc: Global, drawing: &[u8]) -> Result<MemoryDesk> {
     let mut desk = MemoryDesk::new(alloc);
-    desk.put_file("a.dxf", drawing.as_bytes())?;
+    desk.put_file("a.dxf", drawing)?;
     desk.reserve("a.ngc", 100_000)?;
     Ok(desk)
-}
-
-/// A desk with a plain file of these lines in `a.dxf`.
-fn desk_of(alloc: Global, lines: &[&str]) -> Result<MemoryDesk> {
-    let drawing = drawing_of(alloc, lines)?;
-    desk_with(alloc, drawing.as_str())
 }
 
 /// Runs `plan a.dxf a.ngc`.
@@ -98,30 +77,29 @@ fn plan(alloc: Global, desk: &mut MemoryDesk) -> Result<Status> {
     Ok(run(alloc, &words, desk))
 }
 
-/// The code of one chain through these places, each given as its words.
-fn code_of(alloc: Global, places: &[&str]) -> Result<String, AllocError> {
-    let mut code = String::from_str(alloc, "G21 G90\nF1000 S1\n")?;
-    for (k, place) in places.iter().enumerate() {
-        code.push_str(if k == 0 { "G0 " } else { "G1 " })?;
-        code.push_str(place)?;
-        code.push_str(if k == 0 { "\nM3\n" } else { "\n" })?;
-    }
-    code.push_str("M5\nM2\n")?;
-    Ok(code)
+/// Whether the drawing gives this code and this report.
+fn is_planned(alloc: Global, what: &str, drawing: &[u8], code: &str, report: &str) -> Result<()> {
+    let mut desk = desk_with(alloc, drawing)?;
+    let status = plan(alloc, &mut desk)?;
+    let printed = str::from_utf8(desk.printed())?;
+    ensure!(printed == report, "{what}: {printed}");
+    ensure!(desk.file("a.ngc") == Some(code.as_bytes()), "{what}");
+    ensure!(matches!(status, Status::Done), "{what}: {status:?}");
+    ensure!(status.code() == 0, "{what}");
+    Ok(())
 }
 
-#[test]
-fn a_square_is_planned(rt: HostRuntime) -> Result<()> {
-    let alloc = rt.alloc();
-    let mut desk = desk_of(alloc, &SQUARE)?;
+/// Whether the drawing is refused, with this behind the printed word `refused`.
+fn is_refused(alloc: Global, what: &str, drawing: &[u8], why: &str) -> Result<()> {
+    let mut desk = desk_with(alloc, drawing)?;
     let status = plan(alloc, &mut desk)?;
-    ensure!(status == Status::Done && status.code() == 0);
-    let code =
-        b"G21 G90\nF1000 S1\nG0 X0.000 Y10.000\nM3\nG1 X10.000 Y10.000\nG1 X10.000 Y0.000\nG1 X0.000 Y0.000\nG1 X0.000 Y10.000\nM5\nM2\n";
-    ensure!(desk.file("a.ngc") == Some(code.as_slice()));
-    let report =
-        b"component 1 edges 4 odd 0 bound 1 limit 1 pierces 1\ntotal pierces 1 bound 1\nfewest\n";
-    ensure!(desk.printed() == report.as_slice());
+    let expected = format!(in alloc; "refused {why}\n")?;
+    let printed = str::from_utf8(desk.printed())?;
+    ensure!(printed == expected.as_str(), "{what}: {printed}");
+    ensure!(desk.file("a.ngc").is_none(), "{what}");
+    let is_early = matches!(status, Status::Early(Early::NotOneLoop));
+    ensure!(is_early == (why == "not one loop"), "{what}: {status:?}");
+    ensure!(status.code() == 4, "{what}");
     Ok(())
 }
 
@@ -142,9 +120,9 @@ fn other_words_print_the_usage(rt: HostRuntime) -> Result<()> {
         &["replay", "a.dxf", "a.ngc"],
     ];
     for texts in cases {
-        let mut desk = desk_of(alloc, &SQUARE)?;
+        let mut desk = desk_with(alloc, &square_file(alloc)?)?;
         let status = run(alloc, &words_of(alloc, texts)?, &mut desk);
-        ensure!(status == Status::Words && status.code() == 2);
+        ensure!(matches!(status, Status::Words) && status.code() == 2);
         ensure!(desk.printed() == b"usage: plan IN OUT\n".as_slice());
         ensure!(desk.file("a.ngc").is_none());
     }
@@ -152,192 +130,24 @@ fn other_words_print_the_usage(rt: HostRuntime) -> Result<()> {
 }
 
 #[test]
-fn drawings_that_are_no_loop_are_refused(rt: HostRuntime) -> Result<()> {
-    let alloc = rt.alloc();
-    for (what, lines) in NO_LOOPS {
-        let mut desk = desk_of(alloc, lines)?;
-        let status = plan(alloc, &mut desk)?;
-        ensure!(status == Status::Early(Early::NotOneLoop), "{what}");
-        ensure!(status.code() == 4, "{what}");
-        ensure!(
-            desk.printed() == b"refused not one loop\n".as_slice(),
-            "{what}"
-        );
-        ensure!(desk.file("a.ngc").is_none(), "{what}");
-    }
-    Ok(())
-}
-
-#[test]
-fn files_that_are_not_plain_are_refused(rt: HostRuntime) -> Result<()> {
-    let alloc = rt.alloc();
-    let cases: [&[&str]; 4] = [
-        &["0.0 0.0 1E1 0.0"],
-        &["0.0 0.0 10.0 100000.001"],
-        &["0.0 0.0 10.0 -100000.001"],
-        &["0.0 0.0 10.0 0.0001"],
-    ];
-    for lines in cases {
-        let mut desk = desk_of(alloc, lines)?;
-        let status = plan(alloc, &mut desk)?;
-        ensure!(status == Status::Early(Early::NotPlain) && status.code() == 4);
-        ensure!(desk.printed() == b"refused not plain\n".as_slice());
-        ensure!(desk.file("a.ngc").is_none());
-    }
-    Ok(())
-}
-
-#[test]
-fn loops_are_burnt_from_the_mark_vertex_along_the_mark_side(rt: HostRuntime) -> Result<()> {
-    let alloc = rt.alloc();
-    let scattered: [&str; 4] = ["0 10 10 10", "10 0 0 0", "0 0 0 10", "10 0 10 10"];
-    let around: [&str; 5] = [
-        "X0.000 Y10.000",
-        "X10.000 Y10.000",
-        "X10.000 Y0.000",
-        "X0.000 Y0.000",
-        "X0.000 Y10.000",
-    ];
-    let cases: [(&[&str], &[&str]); 4] = [
-        (&scattered, &around),
-        // Both edges at the mark vertex go to the right.
-        (
-            &["5 -1 0 0", "0 0 5 3", "5 3 2 0", "2 0 5 -1"],
-            &[
-                "X0.000 Y0.000",
-                "X5.000 Y3.000",
-                "X2.000 Y0.000",
-                "X5.000 Y-1.000",
-                "X0.000 Y0.000",
-            ],
-        ),
-        // The mark vertex is the upper one of two with the least x, and a vertex lies on a straight line.
-        (
-            &["0 0 4 0", "4 0 0 6", "0 6 0 3", "0 3 0 0"],
-            &[
-                "X0.000 Y6.000",
-                "X4.000 Y0.000",
-                "X0.000 Y0.000",
-                "X0.000 Y3.000",
-                "X0.000 Y6.000",
-            ],
-        ),
-        // The ends of the range.
-        (
-            &[
-                "-100000 -100000.000 100000.000 -100000",
-                "100000 -100000 100000 100000",
-                "100000 100000 -100000 -100000",
-            ],
-            &[
-                "X-100000.000 Y-100000.000",
-                "X100000.000 Y100000.000",
-                "X100000.000 Y-100000.000",
-                "X-100000.000 Y-100000.000",
-            ],
-        ),
-    ];
-    for (lines, places) in cases {
-        let mut desk = desk_of(alloc, lines)?;
-        let status = plan(alloc, &mut desk)?;
-        ensure!(status == Status::Done);
-        ensure!(desk.file("a.ngc") == Some(code_of(alloc, places)?.as_bytes()));
-    }
-    Ok(())
-}
-
-/// The lines of a loop round the places from 0 to `width` on two levels, `2 * width + 2` in all.
-fn strip_of(alloc: Global, width: u32) -> Result<Vec<String>, AllocError>
-    requires { width < 10000 }
-{
-    let mut lines = Vec::new(alloc);
-    for k in 0..width {
-        lines.push(format!(in alloc; "{k} 0 {} 0", k + 1)?)?;
-        lines.push(format!(in alloc; "{k} 1 {} 1", k + 1)?)?;
-    }
-    lines.push(String::from_str(alloc, "0 0 0 1")?)?;
-    lines.push(format!(in alloc; "{width} 0 {width} 1")?)?;
-    Ok(lines)
-}
-
-/// A plain file of the first lines of a strip, `most` at most.
-fn strip_drawing_of(alloc: Global, width: u32, most: usize) -> Result<String, AllocError>
-    requires { width < 10000 }
-{
-    let strip = strip_of(alloc, width)?;
-    let mut lines = Vec::new(alloc);
-    for line in strip.iter().take(most) {
-        lines.push(line.as_str())?;
-    }
-    drawing_of(alloc, &lines)
-}
-
-#[test]
-fn a_thousand_lines_are_planned_and_no_more(rt: HostRuntime) -> Result<()> {
-    let alloc = rt.alloc();
-    for (width, most) in [(499, 1000), (500, 1001)] {
-        let mut desk = desk_with(alloc, strip_drawing_of(alloc, width, most)?.as_str())?;
-        let status = plan(alloc, &mut desk)?;
-        if most == 1000 {
-            ensure!(status == Status::Done);
-            ensure!(
-                desk.printed().starts_with(
-                    b"component 1 edges 1000 odd 0 bound 1 limit 1 pierces 1\n"
-                )
-            );
-        } else {
-            ensure!(status == Status::Early(Early::NotPlain));
-        }
-    }
-    Ok(())
-}
-
-/// The code of the strip: along the upper level to the east, and along the lower one back.
-fn strip_code_of(alloc: Global, width: u32) -> Result<String, AllocError>
-    requires { width < 10000 }
-{
-    let mut code = String::from_str(alloc, "G21 G90\nF1000 S1\nG0 X0.000 Y1.000\nM3\n")?;
-    for k in 1..width + 1 {
-        code.push_str(format!(in alloc; "G1 X{k}.000 Y1.000\n")?.as_str())?;
-    }
-    for k in 0..width + 1 {
-        code.push_str(format!(in alloc; "G1 X{}.000 Y0.000\n", width - k)?.as_str())?;
-    }
-    code.push_str("G1 X0.000 Y1.000\nM5\nM2\n")?;
-    Ok(code)
-}
-
-#[test]
-fn a_loop_of_two_hundred_edges_is_planned(rt: HostRuntime) -> Result<()> {
-    let alloc = rt.alloc();
-    let mut desk = desk_with(alloc, strip_drawing_of(alloc, 99, 200)?.as_str())?;
-    let status = plan(alloc, &mut desk)?;
-    ensure!(status == Status::Done);
-    ensure!(desk.file("a.ngc") == Some(strip_code_of(alloc, 99)?.as_bytes()));
-    let report =
-        b"component 1 edges 200 odd 0 bound 1 limit 1 pierces 1\ntotal pierces 1 bound 1\nfewest\n";
-    ensure!(desk.printed() == report.as_slice());
-    Ok(())
-}
-
-#[test]
 fn each_call_of_the_desk_fails_in_turn(rt: HostRuntime) -> Result<()> {
     let alloc = rt.alloc();
-    let drawing = drawing_of(alloc, &SQUARE)?;
+    let drawing = square_file(alloc)?;
     // The calls are two reads, the write and the print.
-    let cases: [(u64, Status, &str); 4] = [
-        (1, Status::ReadFault, "read fault\n"),
-        (2, Status::ReadFault, "read fault\n"),
-        (3, Status::WriteFault, "write fault\n"),
-        (4, Status::PrintFault, ""),
+    let cases = [
+        (1, Status::ReadFault, "read fault\n", None),
+        (2, Status::ReadFault, "read fault\n", None),
+        (3, Status::WriteFault, "write fault\n", None),
+        (4, Status::PrintFault, "", Some(SQUARE_CODE.as_bytes())),
+        (5, Status::Done, SQUARE_REPORT, Some(SQUARE_CODE.as_bytes())),
     ];
-    for (number, expected, printed) in cases {
-        let mut desk = desk_with(alloc, drawing.as_str())?;
+    for (number, expected, printed, code) in cases {
+        let mut desk = desk_with(alloc, &drawing)?;
         desk.fail_call(number)?;
         let status = plan(alloc, &mut desk)?;
-        ensure!(status == expected);
-        ensure!(desk.printed() == printed.as_bytes());
-        ensure!(desk.file("a.ngc").is_some() == (expected == Status::PrintFault));
+        ensure!(status.code() == expected.code(), "{number}: {status:?}");
+        ensure!(desk.printed() == printed.as_bytes(), "{number}");
+        ensure!(desk.file("a.ngc") == code, "{number}");
     }
     Ok(())
 }
@@ -345,16 +155,20 @@ fn each_call_of_the_desk_fails_in_turn(rt: HostRuntime) -> Result<()> {
 #[test]
 fn faults_of_reading_and_of_the_fault_line(rt: HostRuntime) -> Result<()> {
     let alloc = rt.alloc();
-    let mut desk = desk_with(alloc, "")?;
+    let mut desk = desk_with(alloc, b"")?;
     let words = words_of(alloc, &["plan", "absent.dxf", "a.ngc"])?;
-    ensure!(run(alloc, &words, &mut desk) == Status::ReadFault);
+    let status = run(alloc, &words, &mut desk);
+    ensure!(matches!(status, Status::ReadFault) && status.code() == 3);
     ensure!(desk.printed() == b"read fault\n".as_slice());
-    // The empty file isn't plain. Two more calls read it, and the print of its line fails.
+    // The empty file is refused. Two more calls read it, and the print of its line fails.
     desk.fail_call(4)?;
-    let words = words_of(alloc, &["plan", "a.dxf", "a.ngc"])?;
-    ensure!(run(alloc, &words, &mut desk) == Status::Early(Early::NotPlain));
+    let status = plan(alloc, &mut desk)?;
+    ensure!(matches!(status, Status::Drawing(_)) && status.code() == 4);
     ensure!(desk.printed() == b"read fault\n".as_slice());
     ensure!(desk.file("a.ngc").is_none());
+    // The next print is heard again.
+    plan(alloc, &mut desk)?;
+    ensure!(desk.printed() == b"read fault\nrefused E4 line 1 missing\n".as_slice());
     Ok(())
 }
 
@@ -366,7 +180,7 @@ fn a_file_of_one_byte_too_many_is_too_long(rt: HostRuntime) -> Result<()> {
     desk.put_file("a.dxf", &bytes)?;
     desk.reserve("a.ngc", 1_000)?;
     let status = plan(alloc, &mut desk)?;
-    ensure!(status == Status::TooLong && status.code() == 3);
+    ensure!(matches!(status, Status::TooLong) && status.code() == 3);
     ensure!(desk.printed() == b"file too long\n".as_slice());
     ensure!(desk.file("a.ngc").is_none());
     Ok(())

@@ -1,0 +1,32 @@
+//! Drawings, read from the bytes of a file.
+ghost use Rattle.std.specs.Prelude.{◌≡◌, ◌≤◌, ◌^◌, ◌⊎◌, Some, None, IfOk, IfErr, All, length};
+ghost use Rattle.nest_base.specs.Range.{IsSegmentWithin};
+ghost use Rattle.dxf_entities.specs.declared.error.DrawingError.TheVariants.{OutOfMemory as NoMemory};
+ghost use Rattle.dxf_drawing.specs.Drawings.{segments_of, names_of, read_refusal_of};
+
+use crate::reader::Reader;
+use dxf_entities::DrawingError;
+use nest_base::Drawing;
+use std::alloc::Global;
+
+/// The segments and the names of a drawing, in file order, or why it's refused.
+///
+/// Of several refusals the first comes: by the lines of the file, then by the entities in file order, then for want of a segment.
+/// `OutOfMemory` may come in place of any answer. Coordinates are micrometres.
+pub fn read_drawing(alloc: Global, bytes: &[u8]) -> Result<Drawing, DrawingError>
+    requires few { length bytes.now ≤ 2 ^ 26 }
+    ensures accepted { IfOk result (λ drawing. read_refusal_of bytes.now ≡ None) }
+    ensures segments { IfOk result (λ drawing. drawing.segments ≡ segments_of bytes.now) }
+    ensures names { IfOk result (λ drawing. drawing.names ≡ names_of bytes.now) }
+    ensures most_segments { IfOk result (λ drawing. length drawing.segments ≤ 20000) }
+    ensures most_names { IfOk result (λ drawing. length drawing.names ≤ 5000) }
+    ensures within { IfOk result (λ drawing. All (IsSegmentWithin 100000000) drawing.segments) }
+    ensures refused { IfErr result (λ why. (why ≡ NoMemory) ⊎ (read_refusal_of bytes.now ≡ Some why)) }
+{
+    let mut reader = Reader::new(alloc)?;
+    for byte in bytes {
+        reader.take(alloc, *byte)?;
+    }
+    reader.end(alloc)?;
+    reader.into_drawing()
+}
