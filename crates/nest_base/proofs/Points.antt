@@ -1,7 +1,12 @@
 -- Places as points of the plane, and the points of a segment.
-use Rattle.std.proofs.Common.{arith, ◌≡◌, ℤ, pos, ◌*ℤ◌}
+use Rattle.std.proofs.Common.{ap, arith, ◌≡◌, ◌≢◌, ℤ, pos, ◌*ℤ◌}
+use Rattle.std.specs.Ordering.{int_eq}
+use Rattle.std.specs.Bool.{Decides}
+use Rattle.std.proofs.lemmas.Bool.Decides.{Decides-int_eq, Decides-and, Decides-like}
 use Rattle.std.proofs.lemmas.Int.{ints}
 use Rattle.nest_base.specs.declared.places.Point.{Point}
+use Rattle.nest_base.specs.Order.{is_place}
+use Rattle.nest_base.specs.Angles.{IsDirection}
 use Rattle.nest_base.specs.Plane.{RationalPoint, IsBetween, IsOn, rational, scaled, numerators, direction, cross_product}
 use Rattle.nest_base.proofs.Intervals.{first_between, turned_between}
 use Rattle.nest_base.proofs.Directions.{cross_product-at, cross_product-turned}
@@ -9,6 +14,13 @@ use Rattle.nest_base.proofs.Directions.{cross_product-at, cross_product-turned}
 -- places with the same coordinates are one
 pub same_place : {p q : Point} → p.x ≡ q.x → p.y ≡ q.y → p ≡ q
 same_place e f i = record { x = e i; y = f i }
+
+-- the way from one place to another leads somewhere
+pub IsDirection-direction : (a b : Point) → a ≢ b → IsDirection (direction a b)
+IsDirection-direction a b apart none = apart (same_place (omega (arith, ints, none.0)) (omega (arith, ints, none.1)))
+
+pub Decides-is_place : (v q : Point) → Decides (is_place v q) (v ≡ q)
+Decides-is_place v q = Decides-like (is_place v q) (λ same. same_place same.0 same.1) (λ e. (ap (λ (p : Point). p.x) e, ap (λ (p : Point). p.y) e)) (Decides-and (int_eq v.x q.x) (int_eq v.y q.y) (Decides-int_eq v.x q.x) (Decides-int_eq v.y q.y))
 
 pub mul-one : (v : ℤ) → v *ℤ pos 1 ≡ v
 mul-one v = omega (arith, ints)

@@ -1,11 +1,11 @@
 pub mod Range
 pub mod Plane
 pub mod Turn
+pub mod Angles
 pub mod Walks
 pub mod Drawing
 pub mod Lines
 pub mod Routes
-pub mod HalfEdges
 pub mod Selection
 pub mod Sight
 pub mod Order

@@ -2,6 +2,7 @@
 use Rattle.std.specs.Prelude.{ℕ, ℤ, pos, neg_ℤ, ◌≤ℤ◌}
 use Rattle.nest_base.specs.declared.places.Point.{Point}
 use Rattle.nest_base.specs.declared.places.Segment.{Segment}
+use Rattle.nest_base.specs.declared.places.Edge.{Edge}
 
 -- a coordinate lies within plus and minus n
 abbrev pub IsNear : ℕ → ℤ → Type 0
@@ -16,3 +17,7 @@ pub record IsWithin (n : ℕ) (p : Point) : Type 0 where
 pub record IsSegmentWithin (n : ℕ) (s : Segment) : Type 0 where
   pub a : IsWithin n s.a
   pub b : IsWithin n s.b
+
+pub record IsEdgeWithin (n : ℕ) (e : Edge) : Type 0 where
+  pub low : IsWithin n e.low
+  pub high : IsWithin n e.high

@@ -7,15 +7,22 @@
 #![tactic(auto)]
 
 pub mod drawing;
+pub mod edges;
+pub mod laws;
 pub mod memory;
+pub mod numbers;
 pub mod places;
 #[cfg(test)]
 mod tests;
 pub mod text;
 pub mod trim;
+pub mod turn;
 
 pub use drawing::{Drawing, Name};
+pub use edges::Edges;
 pub use memory::OutOfMemory;
+pub use numbers::{Component, Side, VertexId};
 pub use places::{CODE_RANGE, Edge, Point, RANGE, Segment, between, cross};
 pub use text::Text;
 pub use trim::trimmed;
+pub use turn::turn_order;

@@ -26,7 +26,9 @@ pub struct Segment {
 }
 
 /// A cut with no vertex inside it: an edge of the plane graph that the torch follows. `low` is less than `high` by x, then by y.
-#[derive(Clone, Copy, Debug, PartialEq, Eq, Drop)]
+///
+/// Edges are ordered by low end, then by high end.
+#[derive(Clone, Copy, Debug, PartialEq, Eq, PartialOrd, Ord, Hash, Drop)]
 pub struct Edge {
     pub low: Point,
     pub high: Point,

@@ -13,7 +13,8 @@ use Rattle.nest_base.proofs.Orders.{IsBefore-irrefl}
 use Rattle.nest_base.proofs.Points.{on_first, on_last}
 use Rattle.plate_edges.specs.Cuts.{IsParallel, IsCutPoint}
 use Rattle.plate_edges.specs.Edges.{IsInside, IsPieceOf, IsEdge, IsEdgeBefore, edge_of}
-use Rattle.plate_edges.specs.Laws.{HasLength, ApartSegmentsAreTheirEdges}
+use Rattle.plate_edges.specs.Cuts.{HasLength}
+use Rattle.plate_edges.specs.Laws.{ApartSegmentsAreTheirEdges}
 use Rattle.plate_edges.proofs.Lists.{pair_of, Contains-map, origin_in, AllPairs-map}
 use Rattle.plate_edges.proofs.Sorts.{Sorted, sorted}
 use Rattle.plate_edges.proofs.Orders.{same_edge, turned_order, by_order, lt_before, not_lt_after, IsEdgeBefore-is_strict}
@@ -43,7 +44,7 @@ same_or_end segments h s t c d q meet = elim (pair_of MeetAtEndsOnly s t segment
   ]
 ]
 
-end_is_on : (t : Segment) (q : Point) → IsEndOf t q → IsOn (rational q) t.a t.b
+pub end_is_on : (t : Segment) (q : Point) → IsEndOf t q → IsOn (rational q) t.a t.b
 end_is_on t q (inl e) = subst (λ p. IsOn (rational p) t.a t.b) e (on_first t.a t.b)
 end_is_on t q (inr e) = subst (λ p. IsOn (rational p) t.a t.b) e (on_last t.a t.b)
 
@@ -103,10 +104,10 @@ edge_is_segment segments h e edge =
     let same : edge_of s ≡ e = one_from_to s (edge_of s) e (from_to s (All-contains HasLength segments s h.long c)) e_from_to in
     subst (Contains (map edge_of segments)) same (Contains-map edge_of segments s c)
 
-first_cut : (segments : List Segment) (s : Segment) → Contains segments s → IsCutPoint segments s s.a
+pub first_cut : (segments : List Segment) (s : Segment) → Contains segments s → IsCutPoint segments s s.a
 first_cut segments s c = (on_first s.a s.b, inl (s, c, inl refl))
 
-last_cut : (segments : List Segment) (s : Segment) → Contains segments s → IsCutPoint segments s s.b
+pub last_cut : (segments : List Segment) (s : Segment) → Contains segments s → IsCutPoint segments s s.b
 last_cut segments s c = (on_last s.a s.b, inl (s, c, inr refl))
 
 -- an end isn't inside

@@ -4,3 +4,16 @@ pub mod Orders
 pub mod OneList
 pub mod Places
 pub mod ApartEdges
+pub mod Directions
+pub mod Scaled
+pub mod Insides
+pub mod Vertices
+pub mod Ranges
+pub mod Counts
+pub mod Halves
+pub mod Deciding
+pub mod Keeping
+pub mod EdgeEnds
+pub mod Crossings
+pub mod ThreeCuts
+pub mod Overlapping

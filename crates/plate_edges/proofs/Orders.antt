@@ -5,21 +5,18 @@ use Rattle.std.specs.declared.cmp.Ordering.{Ordering}
 use Rattle.std.specs.declared.cmp.Ordering.TheVariants.{Less, Equal, Greater}
 use Rattle.std.specs.Ordering.{MatchOrdering, int_cmp, ordering_then, is_lt}
 use Rattle.std.specs.Cmp.{int_ranks}
-use Rattle.std.proofs.lemmas.Int.{ints, by_lt_z}
+use Rattle.std.proofs.lemmas.Int.{ints}
 use Rattle.nest_base.specs.declared.places.Point.{Point}
 use Rattle.nest_base.specs.declared.places.Edge.{Edge}
-use Rattle.nest_base.specs.Order.{IsBefore}
+use Rattle.nest_base.specs.Order.{IsBefore, place_cmp}
 use Rattle.nest_base.proofs.Orders.{IsBefore-asym, IsBefore-irrefl}
 use Rattle.nest_base.proofs.Points.{same_place}
-use Rattle.plate_edges.specs.Edges.{IsEdgeBefore, place_cmp}
+use Rattle.nest_base.proofs.Signs.{by_order_z}
+use Rattle.plate_edges.specs.Edges.{IsEdgeBefore}
 use Rattle.plate_edges.proofs.Sorts.{IsStrictOrder}
 
 pub same_edge : {e f : Edge} → e.low ≡ f.low → e.high ≡ f.high → e ≡ f
 same_edge l h i = record { low = l i; high = h i }
-
--- one of three
-by_order_z : {P : Type 0} (a b : ℤ) → (a <ℤ b → P) → (a ≡ b → P) → (b <ℤ a → P) → P
-by_order_z a b less same greater = by_lt_z a b less (λ at_least. by_lt_z b a greater (λ at_most. same (omega (arith, ints))))
 
 pub IsBefore-trans : (a b c : Point) → IsBefore a b → IsBefore b c → IsBefore a c
 IsBefore-trans a b c (inl h) (inl k) = inl (omega (arith, ints))

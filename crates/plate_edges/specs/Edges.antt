@@ -1,12 +1,11 @@
 -- The edges of a drawing: the pieces of its segments between neighbouring cut points.
 use Rattle.std.specs.Prelude.{◌≡◌, ◌⊎◌, if◌then◌else◌, List, Contains}
-use Rattle.std.specs.declared.cmp.Ordering.{Ordering}
-use Rattle.std.specs.Ordering.{int_cmp, ordering_then, is_lt}
+use Rattle.std.specs.Ordering.{is_lt}
 use Rattle.nest_base.specs.declared.places.Point.{Point}
 use Rattle.nest_base.specs.declared.places.Segment.{Segment}
 use Rattle.nest_base.specs.declared.places.Edge.{Edge}
 use Rattle.nest_base.specs.Plane.{rational, IsOn, IsAt, RationalPoint}
-use Rattle.nest_base.specs.Order.{IsBefore}
+use Rattle.nest_base.specs.Order.{IsBefore, place_cmp}
 use Rattle.nest_base.specs.Selection.{EnumeratesBy}
 use Rattle.plate_edges.specs.Cuts.{IsCutPoint}
 
@@ -32,10 +31,6 @@ IsEdgeBefore e f = IsBefore e.low f.low ⊎ ((e.low ≡ f.low) × IsBefore e.hig
 -- all edges of the segments, each once, in order
 abbrev pub AreEdgesOf : List Segment → List Edge → Type 0
 AreEdgesOf segments edges = EnumeratesBy IsEdgeBefore (IsEdge segments) edges
-
--- places compared by x, then by y
-abbrev pub place_cmp : Point → Point → Ordering
-place_cmp a b = ordering_then (int_cmp a.x b.x) (int_cmp a.y b.y)
 
 -- a segment as an edge: the lesser end is `low`
 abbrev pub edge_of : Segment → Edge

@@ -1,3 +1,4 @@
 pub mod HalfEdges
+pub mod Vertices
 pub mod Angles
 pub mod Sixteen

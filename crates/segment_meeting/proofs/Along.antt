@@ -12,7 +12,7 @@ abbrev pub point_along : (a b : Point) (t w : ℤ) → pos 0 <ℤ w → Rational
 point_along a b t w some = record { x = a.x *ℤ w +ℤ (b.x -ℤ a.x) *ℤ t; y = a.y *ℤ w +ℤ (b.y -ℤ a.y) *ℤ t; w = w; positive = some }
 
 -- its coordinates lie between those of a and b
-between_along : (a b t w : ℤ) → pos 0 ≤ℤ t → t ≤ℤ w → IsBetween (a *ℤ w) (a *ℤ w +ℤ (b -ℤ a) *ℤ t) (b *ℤ w)
+pub between_along : (a b t w : ℤ) → pos 0 ≤ℤ t → t ≤ℤ w → IsBetween (a *ℤ w) (a *ℤ w +ℤ (b -ℤ a) *ℤ t) (b *ℤ w)
 between_along a b t w low high =
     let rest : b *ℤ w -ℤ (a *ℤ w +ℤ (b -ℤ a) *ℤ t) ≡ (b -ℤ a) *ℤ (w -ℤ t) = rw (diff_of a, diff_of b, diff_of t, diff_of w) (simp diffs (diff_same _ _ _ _ (omega arith))) in
     by_lt_z b a

@@ -7,7 +7,7 @@ use Rattle.nest_base.specs.Plane.{RationalPoint, IsOn, MeetIn, cross_product, di
 use Rattle.nest_base.proofs.Differences.{diff_of, diffs, diff_same}
 use Rattle.nest_base.proofs.Points.{turned_on}
 use Rattle.nest_base.proofs.Signs.{mul_pos}
-use Rattle.segment_meeting.specs.Sides.{side_of, LieAside, IsPartedFrom}
+use Rattle.segment_meeting.specs.Sides.{side_of, LieAside, AreBoxesApart}
 use Rattle.segment_meeting.proofs.Between.{zero_mean, not_before}
 use Rattle.segment_meeting.proofs.Lines.{side_of_point, side-on, side-turned, seen_from, seen_on}
 
@@ -43,11 +43,13 @@ not_left : (a b c d : Point) (p : RationalPoint) → IsOn p a b → IsOn p c d �
 not_left a b c d p ab cd left_c left_d = not_in_line (direction a b) (direction a c) (direction a d) (seen_from a p) (side-on a b p ab) (seen_on a c d p cd) left_c left_d
 
 -- nor on one to either side of which both lie
-not_aside : (a b c d : Point) (p : RationalPoint) → IsOn p a b → IsOn p c d → LieAside a b c d → ⊥
+pub not_aside : (a b c d : Point) (p : RationalPoint) → IsOn p a b → IsOn p c d → LieAside a b c d → ⊥
 not_aside a b c d p ab cd (inl h) = not_left a b c d p ab cd h.0 h.1
 not_aside a b c d p ab cd (inr h) = not_left b a c d p (turned_on a b p ab) cd (omega (arith, ints, h, side-turned a b c)) (omega (arith, ints, h, side-turned a b d))
 
-pub not_parted : (s t : Segment) (p : RationalPoint) → MeetIn s t p → IsPartedFrom s t → ⊥
-not_parted s t p meet (inl h) = not_before s.a.x s.b.x t.a.x t.b.x p.w p.x p.positive meet.0.between_x meet.1.between_x h
-not_parted s t p meet (inr (inl h)) = not_before s.a.y s.b.y t.a.y t.b.y p.w p.y p.positive meet.0.between_y meet.1.between_y h
-not_parted s t p meet (inr (inr h)) = not_aside s.a s.b t.a t.b p meet.0 meet.1 h
+-- segments whose boxes lie apart have none
+pub boxes_touch : (s t : Segment) (p : RationalPoint) → MeetIn s t p → AreBoxesApart s t → ⊥
+boxes_touch s t p meet (inl (inl h)) = not_before s.a.x s.b.x t.a.x t.b.x p.w p.x p.positive meet.0.between_x meet.1.between_x h
+boxes_touch s t p meet (inl (inr h)) = not_before t.a.x t.b.x s.a.x s.b.x p.w p.x p.positive meet.1.between_x meet.0.between_x h
+boxes_touch s t p meet (inr (inl h)) = not_before s.a.y s.b.y t.a.y t.b.y p.w p.y p.positive meet.0.between_y meet.1.between_y h
+boxes_touch s t p meet (inr (inr h)) = not_before t.a.y t.b.y s.a.y s.b.y p.w p.y p.positive meet.1.between_y meet.0.between_y h

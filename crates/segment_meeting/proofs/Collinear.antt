@@ -22,7 +22,7 @@ mean_depth : (a b q : Point) → (b.x -ℤ q.x) *ℤ (q.y -ℤ a.y) +ℤ (q.x -�
 mean_depth a b q = rw (diff_of a.x, diff_of a.y, diff_of b.x, diff_of b.y, diff_of q.x, diff_of q.y) (simp diffs (diff_same _ _ _ _ (omega arith)))
 
 -- on a line that isn't upright, what lies between two places in x does so in y
-level : (a b q : Point) → (a.x ≡ b.x → ⊥) → side_of a b q ≡ pos 0 → IsBetween a.x q.x b.x → IsBetween a.y q.y b.y
+pub level : (a b q : Point) → (a.x ≡ b.x → ⊥) → side_of a b q ≡ pos 0 → IsBetween a.x q.x b.x → IsBetween a.y q.y b.y
 level a b q aslant on across = cases (between_or_beyond a.y q.y b.y)
   where
     both : (q.x ≡ a.x) × (q.x ≡ b.x) → ⊥

@@ -6,7 +6,7 @@ use Rattle.nest_base.specs.declared.places.Point.{Point}
 use Rattle.nest_base.specs.Plane.{RationalPoint, IsOn, IsAt, cross_product, direction, numerators, scaled}
 use Rattle.nest_base.proofs.Differences.{diff_of, diffs, diff_same, mul-neg}
 use Rattle.segment_meeting.specs.Sides.{side_of, LieBeyond}
-use Rattle.segment_meeting.specs.Corners.{Folds}
+use Rattle.segment_meeting.specs.Folds.{Folds}
 use Rattle.segment_meeting.proofs.Factors.{same_unless, zero_factor}
 use Rattle.segment_meeting.proofs.Between.{one_way}
 use Rattle.segment_meeting.proofs.Lines.{side-on}

@@ -8,5 +8,4 @@ pub mod Crossing
 pub mod Collinear
 pub mod Meeting
 pub mod Folding
-pub mod Corners
-pub mod EachTwo
+pub mod OnePoint

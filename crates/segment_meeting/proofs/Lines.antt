@@ -13,7 +13,7 @@ abbrev pub side_of_point : Point → Point → RationalPoint → ℤ
 side_of_point a b p = cross_product (direction a b) (direction (scaled a p.w) (numerators p))
 
 -- the cross product of the ways from p to both ends is that side, times w
-line_cross : (a b : Point) (p : RationalPoint) → cross_product (direction (numerators p) (scaled a p.w)) (direction (numerators p) (scaled b p.w)) ≡ p.w *ℤ side_of_point a b p
+pub line_cross : (a b : Point) (p : RationalPoint) → cross_product (direction (numerators p) (scaled a p.w)) (direction (numerators p) (scaled b p.w)) ≡ p.w *ℤ side_of_point a b p
 line_cross a b p = rw (diff_of a.x, diff_of a.y, diff_of b.x, diff_of b.y, diff_of p.x, diff_of p.y, diff_of p.w) (simp diffs (diff_same _ _ _ _ (omega arith)))
 
 -- so a point of a segment lies on neither side of it

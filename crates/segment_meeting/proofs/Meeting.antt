@@ -1,10 +1,10 @@
--- Two segments share a point exactly where neither is parted from the other.
+-- Two segments share a point where their boxes aren't apart, and neither lies aside of the other's line.
 use Rattle.std.proofs.Common.{arith, ◌≡◌, ℤ, pos, inl, inr, ◌∙◌}
 use Rattle.std.proofs.lemmas.Int.{ints, by_lt_z}
 use Rattle.nest_base.specs.declared.places.Point.{Point}
 use Rattle.nest_base.specs.declared.places.Segment.{Segment}
 use Rattle.nest_base.specs.Plane.{RationalPoint, MeetIn}
-use Rattle.segment_meeting.specs.Sides.{side_of, LieBeyond, LieAside, IsPartedFrom}
+use Rattle.segment_meeting.specs.Sides.{side_of, LieBeyond, LieAside, AreBoxesApart}
 use Rattle.segment_meeting.proofs.Factors.{same_or_not, same_unless}
 use Rattle.segment_meeting.proofs.Crossing.{turn, side-first, side-second, crossing}
 use Rattle.segment_meeting.proofs.Collinear.{AreCollinear, collinear_meet}
@@ -24,9 +24,9 @@ parallel a b c d e over_first over_second =
     let second = both_zero (side_of c d a) (side_of c d b) over_second (omega (arith, ints, e, side-first a b c d)) in
     record { a_on = second.0; b_on = second.1; c_on = first.0; d_on = first.1 }
 
-pub shared_point : (s t : Segment) → (IsPartedFrom s t → ⊥) → (IsPartedFrom t s → ⊥) → (p : RationalPoint) × MeetIn s t p
-shared_point s t first second = elim (same_or_not (turn s.a s.b t.a t.b) (pos 0)) [
-  | inl e ↦ collinear_meet s.a s.b t.a t.b (parallel s.a s.b t.a t.b e (λ h. first (inr (inr h))) (λ h. second (inr (inr h))))
-      (λ h. first (inl h), λ h. second (inl h)) (λ h. first (inr (inl h)), λ h. second (inr (inl h)))
-  | inr apart ↦ crossing s.a s.b t.a t.b apart (λ h. first (inr (inr h))) (λ h. second (inr (inr h)))
+pub shared_point : (s t : Segment) → (AreBoxesApart s t → ⊥) → (LieAside s.a s.b t.a t.b → ⊥) → (LieAside t.a t.b s.a s.b → ⊥) → (p : RationalPoint) × MeetIn s t p
+shared_point s t boxes first second = elim (same_or_not (turn s.a s.b t.a t.b) (pos 0)) [
+  | inl e ↦ collinear_meet s.a s.b t.a t.b (parallel s.a s.b t.a t.b e first second)
+      (λ h. boxes (inl (inl h)), λ h. boxes (inl (inr h))) (λ h. boxes (inr (inl h)), λ h. boxes (inr (inr h)))
+  | inr apart ↦ crossing s.a s.b t.a t.b apart first second
 ]

@@ -12,6 +12,3 @@ exchanged a b c d share = (share.0, (share.1.1, share.1.0))
 
 pub first_turned : (a b c d : Point) → Share b a c d → Share a b c d
 first_turned a b c d share = (share.0, (turned_on b a share.0 share.1.0, share.1.1))
-
-pub second_turned : (a b c d : Point) → Share a b d c → Share a b c d
-second_turned a b c d share = (share.0, (share.1.0, turned_on d c share.0 share.1.1))

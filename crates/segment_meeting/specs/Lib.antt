@@ -1,2 +1,3 @@
 pub mod Sides
-pub mod Corners
+pub mod Folds
+pub mod OnePoint

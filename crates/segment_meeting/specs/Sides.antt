@@ -20,6 +20,8 @@ AreBefore a b c d = (a <ℤ c) × (a <ℤ d) × (b <ℤ c) × (b <ℤ d)
 abbrev pub LieAside : Point → Point → Point → Point → Type 0
 LieAside a b c d = LieBeyond (pos 0) (side_of a b c) (side_of a b d)
 
--- s lies wholly to the west or to the south of t, or t wholly on one side of the line of s
-abbrev pub IsPartedFrom : Segment → Segment → Type 0
-IsPartedFrom s t = AreBefore s.a.x s.b.x t.a.x t.b.x ⊎ (AreBefore s.a.y s.b.y t.a.y t.b.y ⊎ LieAside s.a s.b t.a t.b)
+-- an upright or a level line parts s and t: one lies wholly to the west or to the south of the other
+abbrev pub AreBoxesApart : Segment → Segment → Type 0
+AreBoxesApart s t =
+    (AreBefore s.a.x s.b.x t.a.x t.b.x ⊎ AreBefore t.a.x t.b.x s.a.x s.b.x)
+    ⊎ (AreBefore s.a.y s.b.y t.a.y t.b.y ⊎ AreBefore t.a.y t.b.y s.a.y s.b.y)
