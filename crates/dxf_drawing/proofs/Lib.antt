@@ -5,3 +5,4 @@ pub mod Rooms
 pub mod Holding
 pub mod Turns
 pub mod Readings
+pub mod Lengths

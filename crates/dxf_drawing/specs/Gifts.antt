@@ -1,9 +1,9 @@
 -- What one entity gives to the drawing.
-use Rattle.std.specs.Prelude.{ℕ, Bool, ◌&&◌, if◌then◌else◌, List, [], ◌∷◌, Option, Some, None}
-use Rattle.std.specs.Ordering.{int_eq}
+use Rattle.std.specs.Prelude.{ℕ, if◌then◌else◌, List, [], ◌∷◌, Option, Some, None}
 use Rattle.nest_base.specs.declared.places.Point.{Point}
 use Rattle.nest_base.specs.declared.places.Segment.{Segment}
 use Rattle.nest_base.specs.declared.drawing.Name.{Name}
+use Rattle.nest_base.specs.Order.{is_place}
 use Rattle.dxf_entities.specs.declared.error.DrawingError.{DrawingError}
 use Rattle.dxf_entities.specs.declared.error.DrawingError.TheVariants.{NotANumber}
 use Rattle.dxf_entities.specs.declared.shape.Shape.{Shape}
@@ -19,10 +19,6 @@ pub data Gift : Type 0 where
   Keeps : Segment → Gift
   Names : Name → Gift
   Refuses : DrawingError → Gift
-
--- the two are one place
-abbrev pub is_place : Point → Point → Bool
-is_place p q = int_eq p.x q.x && int_eq p.y q.y
 
 -- the segment from p to q, unless they are one place
 abbrev pub side : Point → Point → ℕ → List Gift

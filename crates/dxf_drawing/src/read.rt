@@ -1,5 +1,5 @@
 //! Drawings, read from the bytes of a file.
-ghost use Rattle.std.specs.Prelude.{◌≡◌, ◌≤◌, ◌^◌, ◌⊎◌, Some, None, IfOk, IfErr, All, length};
+ghost use Rattle.std.specs.Prelude.{◌≡◌, ◌≢◌, ◌≤◌, ◌^◌, ◌⊎◌, Some, None, IfOk, IfErr, All, length};
 ghost use Rattle.nest_base.specs.Range.{IsSegmentWithin};
 ghost use Rattle.dxf_entities.specs.declared.error.DrawingError.TheVariants.{OutOfMemory as NoMemory};
 ghost use Rattle.dxf_drawing.specs.Drawings.{segments_of, names_of, read_refusal_of};
@@ -21,6 +21,7 @@ pub fn read_drawing(alloc: Global, bytes: &[u8]) -> Result<Drawing, DrawingError
     ensures most_segments { IfOk result (λ drawing. length drawing.segments ≤ 20000) }
     ensures most_names { IfOk result (λ drawing. length drawing.names ≤ 5000) }
     ensures within { IfOk result (λ drawing. All (IsSegmentWithin 100000000) drawing.segments) }
+    ensures lengths { IfOk result (λ drawing. All (λ s. s.a ≢ s.b) drawing.segments) }
     ensures refused { IfErr result (λ why. (why ≡ NoMemory) ⊎ (read_refusal_of bytes.now ≡ Some why)) }
 {
     let mut reader = Reader::new(alloc)?;

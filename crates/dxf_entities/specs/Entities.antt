@@ -54,14 +54,6 @@ shape_named name =
 abbrev pub shape_of : Entity → Shape
 shape_of e = shape_named (name_of e)
 
--- the entity may be a vertex of a polyline
-abbrev pub is_vertex : Entity → Bool
-is_vertex e = is_named (codes "VERTEX") e
-
--- the entity may end the vertices of a polyline
-abbrev pub is_seqend : Entity → Bool
-is_seqend e = is_named (codes "SEQEND") e
-
 -- a part of entities opens with `0 SECTION` that is directly followed by `2 ENTITIES`
 abbrev pub opens_part : Entity → Bool
 opens_part e = is_named (codes "SECTION") e && option_map_or (is_pair 2 (codes "ENTITIES")) (slice_get e.rest 0) false

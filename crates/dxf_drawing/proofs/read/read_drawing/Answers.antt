@@ -1,8 +1,10 @@
-use Rattle.std.proofs.Common.{ℕ, List, length, ◌≤◌, arith, ◌≡◌, ◌+◌, inr, take, ap, ◌∙◌, sym, subst}
+use Rattle.std.proofs.Common.{All, ◌≢◌, ℕ, List, length, ◌≤◌, arith, ◌+◌, inr, take, ap, ◌∙◌, sym, subst}
 use Rattle.std.proofs.lemmas.List.{take_all, take_more}
 use Rattle.std.proofs.lemmas.Result.{IfOk-weaker, IfErr-weaker}
 use Rattle.dxf_drawing.specs.declared.reader.Reader.{Reader}
 use Rattle.dxf_drawing.specs.Reading.{ReaderAt, IsAtTheEnd}
+use Rattle.nest_base.specs.declared.places.Segment.{Segment}
+use Rattle.dxf_drawing.proofs.Lengths.{segments_have_length}
 use Rattle.dxf_drawing.proofs.read.read_drawing.Goals as goal
 
 -- the bytes that were taken are all
@@ -35,3 +37,6 @@ returns-clause-most_names c = IfOk-weaker c.into_drawing.result _ _ (λ drawing 
 
 pub returns-clause-refused : goal.returns-clause-refused
 returns-clause-refused c = IfErr-weaker c.into_drawing.result _ _ (λ why refused. inr (refused c.args.bytes.now (all_taken c.end.new.self c.args.bytes.now c.loop-byte.byte-index (omega arith) (c.in_ok-end.ensures (take c.loop-byte.byte-index c.args.bytes.now) c.loop-byte.invariant.at)))) c.into_drawing.ensures.err
+
+pub returns-clause-lengths : goal.returns-clause-lengths
+returns-clause-lengths c = IfOk-weaker c.into_drawing.result _ _ (λ drawing same. subst (All (λ (s : Segment). s.a ≢ s.b)) (sym same) (segments_have_length c.args.bytes.now)) (returns-clause-segments c)
