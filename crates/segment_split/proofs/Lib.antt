@@ -1,0 +1,15 @@
+pub mod Meetings
+pub mod Sizes
+pub mod Bits
+pub mod Floors
+pub mod AddedPlaces
+pub mod CutsByOne
+pub mod CutsByAll
+pub mod Deduplicated
+pub mod ByComparison
+pub mod CutLists
+pub mod Neighbours
+pub mod PiecesOfOne
+pub mod SplitSoFar
+pub mod FirstCrossing
+pub mod Crossings

@@ -1,0 +1,4 @@
+pub mod Meetings
+pub mod CutPoints
+pub mod Pieces
+pub mod Splits
