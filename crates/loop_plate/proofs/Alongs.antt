@@ -11,13 +11,13 @@ use Rattle.nest_base.specs.Routes.{legs}
 use Rattle.nest_base.proofs.Lists.{Contains-head, Contains-later, Contains-cases, Contains-none, AllZip-append}
 use Rattle.plate_sides.specs.Sides.{IsHalfEdgeOf, IsVertex, IsNextCcw}
 use Rattle.plate_sides.specs.Links.{IsAlong}
-use Rattle.plate_sides.proofs.HalfEdges.{one_edge}
+use Rattle.plate_sides.proofs.HalfEdges.{one_edge, ends_differ, twin_is_half_edge_of}
 use Rattle.plate_covers.specs.Odd.{HasDegree}
 use Rattle.loop_plate.specs.Loops.{IsClosedRoute}
 use Rattle.loop_plate.proofs.Lists.{Chained, Chained-front, Chained-round, Chained-each}
 use Rattle.std.proofs.lemmas.List.Elements.{Contains-append_cases}
 use Rattle.loop_plate.proofs.Angles.{not_first, not_last}
-use Rattle.loop_plate.proofs.HalfEdges.{only_two, ends_differ, heading_is_long, twin_is_half_edge_of}
+use Rattle.loop_plate.proofs.HalfEdges.{only_two, heading_is_long}
 use Rattle.loop_plate.proofs.Routes.{Meets, closed_legs}
 use Rattle.loop_plate.proofs.Loops.{ends_before, order_is_distinct, in_edges}
 

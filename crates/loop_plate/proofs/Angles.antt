@@ -1,25 +1,21 @@
 -- No angle holds either of its own directions; and which directions lie between an eastward one and west.
-use Rattle.std.proofs.Common.{arith, ◌≡◌, inl, inr, ℤ, pos, ◌-ℤ◌, ◌*ℤ◌, neg_ℤ, ◌<ℤ◌, ◌≤ℤ◌}
+use Rattle.std.proofs.Common.{arith, ◌≡◌, sym, pos, neg_ℤ, ◌<ℤ◌, ◌≤ℤ◌}
 use Rattle.std.proofs.lemmas.Int.{ints, by_lt_z}
 use Rattle.nest_base.specs.declared.places.Point.{Point}
 use Rattle.nest_base.specs.Plane.{direction, cross_product, dot_product}
 use Rattle.nest_base.specs.Order.{IsBefore}
 use Rattle.nest_base.specs.Turn.{IsInsideAngle, below_half, above_half, half, whole, IsSameDirection, TurnsLeft, west}
-use Rattle.nest_base.proofs.Differences.{diff_of, diffs, diff_same, mul-neg}
-use Rattle.nest_base.proofs.Directions.{cross_product-self}
-use Rattle.nest_base.proofs.Signs.{mul_pos, mul_nonneg}
+use Rattle.nest_base.proofs.Differences.{mul-neg}
+use Rattle.nest_base.proofs.Directions.{cross_product-self, dot_product-self, IsSameDirection-sym}
+use Rattle.nest_base.proofs.InsideAngles.{not_inside_first}
+use Rattle.nest_base.proofs.Orders.{IsBefore-irrefl}
+use Rattle.nest_base.proofs.Points.{IsDirection-direction}
+use Rattle.nest_base.proofs.Signs.{mul_nonneg}
 use Rattle.loop_route.proofs.Turns.{IsEasterly, not_west}
 use Rattle.loop_route.proofs.Turns.IsEasterly.{east, south}
 
-IsSameDirection-sym : (a b : Point) → IsSameDirection a b → IsSameDirection b a
-IsSameDirection-sym a b (c, d) =
-    (omega (arith, ints, c), omega (arith, ints, d))
-
 pub not_first : (a b : Point) → pos 0 <ℤ dot_product a a → IsInsideAngle a a b → ⊥
-not_first a b long (below_half x y z) = omega (arith, ints, y, cross_product-self a)
-not_first a b long (above_half x y z w) = y (cross_product-self a, long)
-not_first a b long (half x y) = omega (arith, ints, y, cross_product-self a)
-not_first a b long (whole x y) = y (cross_product-self a, long)
+not_first a b long inside = not_inside_first a a b inside (cross_product-self a, long)
 
 pub not_last : (a b : Point) → pos 0 <ℤ dot_product b b → IsInsideAngle a b b → ⊥
 not_last a b long (below_half x y z) = omega (arith, ints, z, cross_product-self b)
@@ -27,28 +23,13 @@ not_last a b long (above_half x y z w) = z (cross_product-self b, long)
 not_last a b long (half x y) = omega (arith, ints, y, x.0)
 not_last a b long (whole x y) = y (IsSameDirection-sym a b x)
 
-neg_square : (x y : ℤ) → (x -ℤ y) *ℤ (x -ℤ y) ≡ (y -ℤ x) *ℤ (y -ℤ x)
-neg_square x y = rw (diff_of x, diff_of y) (simp diffs (diff_same _ _ _ _ (omega arith)))
-
-square_nonneg : (x y : ℤ) → pos 0 ≤ℤ ((x -ℤ y) *ℤ (x -ℤ y))
-square_nonneg x y = by_lt_z x y
-    (λ less. omega (arith, ints, neg_square x y, mul_nonneg (y -ℤ x) (y -ℤ x) (omega (arith, ints)) (omega (arith, ints))))
-    (λ more. mul_nonneg (x -ℤ y) (x -ℤ y) (omega (arith, ints)) (omega (arith, ints)))
-
-square_pos : (x y : ℤ) → x <ℤ y → (pos 0 <ℤ ((y -ℤ x) *ℤ (y -ℤ x))) × (pos 0 <ℤ ((x -ℤ y) *ℤ (x -ℤ y)))
-square_pos x y less =
-    let up : pos 0 <ℤ ((y -ℤ x) *ℤ (y -ℤ x)) = mul_pos (y -ℤ x) (y -ℤ x) (omega (arith, ints)) (omega (arith, ints)) in
-    (up, omega (arith, ints, up, neg_square x y))
-
 -- the way between two places in order, either way, isn't zero
 pub direction-before : (a b : Point) → IsBefore a b →
     (pos 0 <ℤ dot_product (direction a b) (direction a b)) × (pos 0 <ℤ dot_product (direction b a) (direction b a))
-direction-before a b (inl across) =
-    let x = square_pos a.x b.x across in
-    (omega (arith, ints, x.0, square_nonneg b.y a.y), omega (arith, ints, x.1, square_nonneg a.y b.y))
-direction-before a b (inr (level, up)) =
-    let y = square_pos a.y b.y up in
-    (omega (arith, ints, y.0, square_nonneg b.x a.x), omega (arith, ints, y.1, square_nonneg a.x b.x))
+direction-before a b before = (
+  dot_product-self (direction a b) (IsDirection-direction a b (λ e. IsBefore-irrefl a b before e)),
+  dot_product-self (direction b a) (IsDirection-direction b a (λ e. IsBefore-irrefl a b before (sym e))),
+)
 
 eastward-up : (a : Point) → IsEasterly a → pos 0 ≤ℤ a.y → pos 0 <ℤ a.x
 eastward-up a (east is_east) up = is_east

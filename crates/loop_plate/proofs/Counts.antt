@@ -9,7 +9,7 @@ use Rattle.plate_covers.specs.Odd.{IsOdd, AreOddVertices}
 use Rattle.plate_covers.specs.Limit.{IsLimit, no_odd as no_odd_limit, outer_odd, inner_odd}
 use Rattle.pierce_bound.specs.Bound.{IsBound, no_odd, some_odd}
 use Rattle.loop_plate.specs.Loops.{IsClosedRoute}
-use Rattle.loop_plate.proofs.Selections.{same_count}
+use Rattle.nest_base.proofs.Selections.{same_count}
 use Rattle.loop_plate.proofs.Marks.{component_is_vertices}
 
 -- where no vertex of the component is odd, no list of all odd ones has an element

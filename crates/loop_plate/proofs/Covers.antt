@@ -17,7 +17,7 @@ use Rattle.plate_covers.specs.Cover.{IsTrail, IsCover, HasTrailsIn}
 use Rattle.pierce_bound.specs.Bound.{NoCoverUndercuts}
 use Rattle.loop_plate.specs.Loops.{IsClosedRoute}
 use Rattle.loop_plate.proofs.Lists.{Chained, Chained-front, AllZip-first_of}
-use Rattle.loop_plate.proofs.Selections.{Selects-none}
+use Rattle.nest_base.proofs.Selections.{Selects-none}
 use Rattle.loop_plate.proofs.Routes.{Meets, closed_legs}
 use Rattle.loop_plate.proofs.Loops.{ends_before, in_edges, in_order, order_is_distinct, leg_is_half_edge, side_is_leg}
 use Rattle.loop_plate.proofs.Marks.{half_edge_is_in}

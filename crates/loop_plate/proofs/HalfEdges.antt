@@ -6,12 +6,11 @@ use Rattle.nest_base.specs.declared.places.Point.{Point}
 use Rattle.nest_base.specs.declared.places.Edge.{Edge}
 use Rattle.nest_base.specs.Plane.{HalfEdge, twin, heading, dot_product}
 use Rattle.nest_base.specs.Order.{IsBefore, IsMarkedBefore}
-use Rattle.nest_base.proofs.Orders.{IsBefore-irrefl}
-use Rattle.plate_sides.specs.Sides.{IsHalfEdgeOf, IsHalfEdge, Leaves}
+use Rattle.plate_sides.specs.Sides.{IsHalfEdgeOf, Leaves}
 use Rattle.plate_sides.specs.Reach.{HasEdge}
-use Rattle.plate_sides.proofs.HalfEdges.{one_edge}
+use Rattle.plate_sides.proofs.HalfEdges.{one_edge, leaves_once}
 use Rattle.plate_covers.specs.Odd.{HasDegree}
-use Rattle.loop_plate.proofs.Selections.{one_of_two}
+use Rattle.nest_base.proofs.Selections.{one_of_two}
 use Rattle.loop_plate.proofs.Angles.{direction-before}
 
 pub IsMarkedBefore-asym : (a b : Point) → IsMarkedBefore a b → IsMarkedBefore b a → ⊥
@@ -19,13 +18,6 @@ IsMarkedBefore-asym a b (inl h) (inl k) = omega (arith, ints)
 IsMarkedBefore-asym a b (inl h) (inr k) = omega (arith, ints, k.0)
 IsMarkedBefore-asym a b (inr h) (inl k) = omega (arith, ints, h.0)
 IsMarkedBefore-asym a b (inr h) (inr k) = omega (arith, ints, h.1, k.1)
-
-pub twin_is_half_edge_of : (e : Edge) (h : HalfEdge) → IsHalfEdgeOf e h → IsHalfEdgeOf e (twin h)
-twin_is_half_edge_of e h (inl is) = inr (ap twin is)
-twin_is_half_edge_of e h (inr is) = inl (ap twin is)
-
-pub twin_is_half_edge : (edges : List Edge) (h : HalfEdge) → IsHalfEdge edges h → IsHalfEdge edges (twin h)
-twin_is_half_edge edges h (e, stands, is) = (e, stands, twin_is_half_edge_of e h is)
 
 pub HasEdge-twin : (burnt : List HalfEdge) (h : HalfEdge) → HasEdge burnt (twin h) → HasEdge burnt h
 HasEdge-twin burnt h (inl c) = inr c
@@ -37,15 +29,6 @@ same_or_twin e h k (inl p) (inl q) = inl (p ∙ sym q)
 same_or_twin e h k (inl p) (inr q) = inr (p ∙ sym (ap twin q))
 same_or_twin e h k (inr p) (inl q) = inr (p ∙ sym (ap twin q))
 same_or_twin e h k (inr p) (inr q) = inl (p ∙ sym q)
-
--- one half-edge of an edge leaves each of its ends
-pub leaves_once : (e : Edge) (h k : HalfEdge) → IsBefore e.low e.high → IsHalfEdgeOf e h → IsHalfEdgeOf e k → h.from ≡ k.from → h ≡ k
-leaves_once e h k a (inl p) (inl q) at = p ∙ sym q
-leaves_once e h k a (inl p) (inr q) at =
-    absurd (IsBefore-irrefl e.low e.high a (sym (ap (λ (g : HalfEdge). g.from) p) ∙ at ∙ ap (λ (g : HalfEdge). g.from) q))
-leaves_once e h k a (inr p) (inl q) at =
-    absurd (IsBefore-irrefl e.low e.high a (sym (ap (λ (g : HalfEdge). g.from) q) ∙ sym at ∙ ap (λ (g : HalfEdge). g.from) p))
-leaves_once e h k a (inr p) (inr q) at = p ∙ sym q
 
 -- the end that a half-edge leaves is an end of its edge
 pub end_at : (e : Edge) (h : HalfEdge) (v : Point) → IsHalfEdgeOf e h → h.from ≡ v → (e.low ≡ v) ⊎ (e.high ≡ v)
@@ -88,8 +71,3 @@ only_two edges v e f h k before two is_e is_f differ of_e of_f at_h at_k d leave
     of (inl same) = absurd (differ (one_edge e f h (before e is_e) (before f is_f) of_e (subst (IsHalfEdgeOf f) (sym same) of_f)))
     of (inr (inl same)) = inl (sym same)
     of (inr (inr same)) = inr (sym same)
-
--- a half-edge doesn't end where it begins
-pub ends_differ : (e : Edge) (h : HalfEdge) → IsBefore e.low e.high → IsHalfEdgeOf e h → h.to ≡ h.from → ⊥
-ends_differ e h a (inl p) same = IsBefore-irrefl e.low e.high a (sym (ap (λ (g : HalfEdge). g.from) p) ∙ sym same ∙ ap (λ (g : HalfEdge). g.to) p)
-ends_differ e h a (inr p) same = IsBefore-irrefl e.low e.high a (sym (ap (λ (g : HalfEdge). g.to) p) ∙ same ∙ ap (λ (g : HalfEdge). g.from) p)

@@ -19,7 +19,8 @@ use Rattle.loop_plate.specs.Loops.{IsClosedRoute}
 use Rattle.loop_plate.specs.LoopPlan.{IsAloneOnItsLine}
 use Rattle.loop_plate.proofs.Lists.{Chained, Chained-next, Chained-previous, Contains-cut}
 use Rattle.loop_plate.proofs.Angles.{both_last}
-use Rattle.loop_plate.proofs.HalfEdges.{of_three, ends_differ, twin_is_half_edge}
+use Rattle.loop_plate.proofs.HalfEdges.{of_three}
+use Rattle.plate_sides.proofs.HalfEdges.{ends_differ, twin_is_half_edge}
 use Rattle.loop_plate.proofs.Routes.{closed_legs}
 use Rattle.loop_plate.proofs.Loops.{ends_before, leg_or_twin, side_is_leg, no_leg_twice, leg_is_half_edge}
 use Rattle.loop_plate.proofs.Alongs.{legs_along}

@@ -1,10 +1,8 @@
 pub mod Lists
-pub mod Selections
 pub mod Angles
 pub mod HalfEdges
 pub mod Routes
 pub mod Loops
-pub mod Degrees
 pub mod Alongs
 pub mod Marks
 pub mod Sights
@@ -15,5 +13,4 @@ pub mod Reports
 pub mod Plans
 pub mod Insides
 pub mod Squares
-pub mod Ends
-pub mod Segments
+pub mod ClosedRoutes

@@ -13,10 +13,10 @@ use Rattle.nest_base.proofs.Lists.{Contains-head}
 use Rattle.nest_base.proofs.Pairs.{AllPairs-permutation}
 use Rattle.plate_sides.specs.Sides.{IsHalfEdgeOf, IsHalfEdge}
 use Rattle.plate_sides.specs.Reach.{HasEdge}
-use Rattle.plate_sides.proofs.HalfEdges.{one_edge}
+use Rattle.plate_sides.proofs.HalfEdges.{one_edge, twin_is_half_edge_of}
 use Rattle.loop_plate.specs.Loops.{IsClosedRoute}
 use Rattle.loop_plate.proofs.Lists.{AllZip-first_of, AllZip-second_of, AllZip-cut, AllPairs-across}
-use Rattle.loop_plate.proofs.HalfEdges.{same_or_twin, twin_is_half_edge_of}
+use Rattle.loop_plate.proofs.HalfEdges.{same_or_twin}
 use Rattle.loop_plate.proofs.Routes.{closed_legs}
 
 module _ {edges : List Edge} {side : HalfEdge} {places : List Point} (r : IsClosedRoute edges side places) where

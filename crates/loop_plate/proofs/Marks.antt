@@ -14,15 +14,10 @@ use Rattle.plate_sides.specs.Components.{SameComponent, IsMark, IsIn, AreMarks}
 use Rattle.plate_sides.specs.Links.{IsAlong, IsMarkSide}
 use Rattle.loop_plate.specs.Loops.{IsClosedRoute}
 use Rattle.loop_plate.proofs.Lists.{AllPairs-single}
-use Rattle.loop_plate.proofs.HalfEdges.{twin_is_half_edge, IsMarkedBefore-asym}
+use Rattle.loop_plate.proofs.HalfEdges.{IsMarkedBefore-asym}
+use Rattle.plate_sides.proofs.Vertices.{joined_is_vertex}
 use Rattle.loop_plate.proofs.Loops.{leg_is_half_edge, side_is_leg, leg_or_twin}
 use Rattle.loop_plate.proofs.Alongs.{each_leg}
-
--- what edges join to a vertex is a vertex
-pub joined_is_vertex : (edges : List Edge) {mark v : Point} → IsVertex edges mark → SameComponent edges v mark → IsVertex edges v
-joined_is_vertex edges vertex here = vertex
-joined_is_vertex edges {v} vertex (on {b} l w) = (record { from = v; to = b }, (l, refl))
-joined_is_vertex edges {v} vertex (against {b} l w) = (record { from = v; to = b }, (twin_is_half_edge edges (record { from = b; to = v }) l, refl))
 
 module _ {edges : List Edge} {side : HalfEdge} {places : List Point} (r : IsClosedRoute edges side places) where
   mark_is_vertex : IsVertex edges side.from

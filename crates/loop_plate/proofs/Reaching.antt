@@ -14,7 +14,8 @@ use Rattle.plate_sides.specs.Links.{Outer, At, along, sight, IsAlong, SeesNone, 
 use Rattle.plate_sides.specs.Reach.{Reaches, HasEdge, within, across}
 use Rattle.plate_sides.specs.Enclosing.{IsOrderEnclosing}
 use Rattle.loop_plate.specs.Loops.{IsClosedRoute}
-use Rattle.loop_plate.proofs.HalfEdges.{twin_is_half_edge, HasEdge-twin}
+use Rattle.loop_plate.proofs.HalfEdges.{HasEdge-twin}
+use Rattle.plate_sides.proofs.HalfEdges.{twin_is_half_edge}
 use Rattle.loop_plate.proofs.Loops.{leg_is_half_edge, leg_or_twin, no_leg_twice}
 use Rattle.loop_plate.proofs.Alongs.{each_leg}
 use Rattle.loop_plate.proofs.Marks.{loop_mark_side}

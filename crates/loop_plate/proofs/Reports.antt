@@ -9,7 +9,7 @@ use Rattle.plate_sides.specs.Components.{IsIn}
 use Rattle.pierce_report.specs.Report.{IsRowOf, IsReport, report_text}
 use Rattle.loop_plate.specs.Loops.{IsClosedRoute}
 use Rattle.loop_plate.specs.LoopReport.{loop_row, loop_report}
-use Rattle.loop_plate.proofs.Selections.{Selects-all}
+use Rattle.nest_base.proofs.Selections.{Selects-all}
 use Rattle.loop_plate.proofs.Marks.{half_edge_is_in, loop_marks}
 use Rattle.loop_plate.proofs.Counts.{loop_has_no_odd, loop_bound, loop_limit}
 

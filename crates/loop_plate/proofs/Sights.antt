@@ -10,7 +10,7 @@ use Rattle.nest_base.proofs.Differences.{diff_of, diffs, diff_same}
 use Rattle.nest_base.proofs.Signs.{mul_nonneg}
 use Rattle.plate_sides.specs.Links.{SeesNone}
 use Rattle.loop_plate.specs.Loops.{IsClosedRoute}
-use Rattle.loop_plate.proofs.HalfEdges.{twin_is_half_edge}
+use Rattle.plate_sides.proofs.HalfEdges.{twin_is_half_edge}
 
 turn_at : (fx fy tx ty px py : ℤ) →
     ((tx -ℤ fx) *ℤ (py -ℤ fy)) -ℤ ((ty -ℤ fy) *ℤ (px -ℤ fx)) ≡ neg_ℤ (((tx -ℤ px) *ℤ (fy -ℤ py)) +ℤ ((fx -ℤ px) *ℤ (py -ℤ ty)))

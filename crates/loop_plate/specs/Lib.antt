@@ -2,4 +2,4 @@ pub mod Loops
 pub mod LoopReport
 pub mod LoopPlan
 pub mod Square
-pub mod Segments
+pub mod ClosedRoutes

@@ -1,7 +1,7 @@
 //! What holds of each route round one closed loop, as contracts of functions that do nothing.
 ghost use Rattle.loop_plate.specs.Loops.{IsClosedRoute};
 ghost use Rattle.loop_plate.specs.LoopPlan.{ClosedRouteIsPlan, UnburntEdgesReach, IsAloneOnItsLine, BurntLoopDetaches};
-ghost use Rattle.loop_plate.specs.Segments.{LoopIsClosedRoute};
+ghost use Rattle.loop_plate.specs.ClosedRoutes.{LoopIsClosedRoute};
 ghost use Rattle.loop_plate.specs.Square.{square, top, square_route};
 
 /// A route round one closed loop is a plan with one pierce: a cover by one trail that detaches no edge before it burns.
@@ -19,9 +19,8 @@ pub fn burnt_loop_detaches_its_inside()
     ensures { BurntLoopDetaches }
 {}
 
-/// The route round segments that are one loop is a closed route over their edges, which are the segments, each with its lesser
-/// end first; so the laws above speak of it.
-pub fn route_round_segments_is_closed()
+/// The route round the edges of a drawing that are one loop is a closed route over them; so the laws above speak of it.
+pub fn route_round_edges_is_closed()
     ensures { LoopIsClosedRoute }
 {}
 

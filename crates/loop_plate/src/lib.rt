@@ -4,8 +4,8 @@
 //! cover has fewer trails, and the report on it is known. That holds of every loop and every route round it, and here it's
 //! proved in the plate's general definitions, as laws: functions that do nothing. Nothing here runs, so it costs nothing.
 //!
-//! It stands on the definitions of the plate, and on those of `loop_route`, whose route round segments it takes to their edges.
-//! The planner above cites the laws and lemmas for the routes that it finds.
+//! It stands on the definitions of the plate, and on those of `loop_route`, whose routes it speaks of. The planner above cites the
+//! laws and lemmas for the routes that it finds.
 #![tactic(auto)]
 
 pub mod laws;

@@ -1,8 +1,9 @@
-pub mod Degrees
-pub mod HalfEdges
 pub mod Turns
+mod Degrees
+mod Vertices
 mod Twos
 mod Trails
 mod OneLoop
+mod Seen
 mod Marks
 mod Sides

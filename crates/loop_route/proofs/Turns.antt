@@ -1,14 +1,13 @@
 -- Headings east of a line from north to south: which of them is met last before west.
-use Rattle.std.proofs.Common.{arith, ◌≡◌, inl, inr, ap, ℤ, pos, ◌+ℤ◌, ◌-ℤ◌, ◌*ℤ◌, ◌<ℤ◌, ◌≤ℤ◌}
-use Rattle.std.specs.Prelude.{neg_ℤ}
+use Rattle.std.proofs.Common.{arith, ◌≡◌, inl, inr, ap, pos, ◌*ℤ◌, ◌<ℤ◌, ◌≤ℤ◌}
 use Rattle.std.proofs.lemmas.Int.{ints, by_lt_z}
 use Rattle.nest_base.specs.declared.places.Point.{Point}
 use Rattle.nest_base.specs.Plane.{direction, cross_product, dot_product}
 use Rattle.nest_base.specs.Order.{IsMarkedBefore}
 use Rattle.nest_base.specs.Turn.{TurnsLeft, IsInsideAngle, west}
 use Rattle.nest_base.specs.Turn.IsInsideAngle.{below_half, above_half, half, whole}
-use Rattle.nest_base.proofs.Differences.{diff_of, diff_same, diffs, neg-mul}
-use Rattle.nest_base.proofs.Signs.{mul_pos, mul_nonneg}
+use Rattle.nest_base.proofs.Directions.{balance_x, balance_y}
+use Rattle.nest_base.proofs.Signs.{mul_pos, mul_nonneg, mul_neg, mul_nonpos, mul_neg_neg, mul_nonpos_nonpos}
 
 -- a heading to the east, or straight to the south
 pub data IsEasterly (d : Point) : Type 0 where
@@ -19,30 +18,6 @@ pub data IsEasterly (d : Point) : Type 0 where
 pub east_of_mark : (mark to : Point) → IsMarkedBefore mark to → IsEasterly (direction mark to)
 east_of_mark mark to (inl is_east) = east (omega (arith, ints))
 east_of_mark mark to (inr is_south) = south (omega (arith, ints, is_south.0)) (omega (arith, ints, is_south.1))
-
--- of three headings each is the sum of the other two, weighted by turns
-balance_x : (bx by cx cy dx dy : ℤ) → ((bx *ℤ cy) -ℤ (by *ℤ cx)) *ℤ dx +ℤ ((cx *ℤ dy) -ℤ (cy *ℤ dx)) *ℤ bx ≡ ((bx *ℤ dy) -ℤ (by *ℤ dx)) *ℤ cx
-balance_x bx by cx cy dx dy = rw (diff_of bx, diff_of by, diff_of cx, diff_of cy, diff_of dx, diff_of dy) (simp diffs (diff_same _ _ _ _ (omega arith)))
-
-balance_y : (bx by cx cy dx dy : ℤ) → ((bx *ℤ cy) -ℤ (by *ℤ cx)) *ℤ dy +ℤ ((cx *ℤ dy) -ℤ (cy *ℤ dx)) *ℤ by ≡ ((bx *ℤ dy) -ℤ (by *ℤ dx)) *ℤ cy
-balance_y bx by cx cy dx dy = rw (diff_of bx, diff_of by, diff_of cx, diff_of cy, diff_of dx, diff_of dy) (simp diffs (diff_same _ _ _ _ (omega arith)))
-
--- the product of a positive and a negative number
-pub mul_neg : (a b : ℤ) → pos 0 <ℤ a → b <ℤ pos 0 → (a *ℤ b) <ℤ pos 0
-mul_neg a b p q = omega (arith, ints, neg-mul b a, mul_pos (neg_ℤ b) a (omega (arith, ints)) p)
-
-pub mul_nonpos : (a b : ℤ) → pos 0 ≤ℤ a → b ≤ℤ pos 0 → (a *ℤ b) ≤ℤ pos 0
-mul_nonpos a b p q = omega (arith, ints, neg-mul b a, mul_nonneg (neg_ℤ b) a (omega (arith, ints)) p)
-
-neg-mul-neg : (a b : ℤ) → neg_ℤ a *ℤ neg_ℤ b ≡ a *ℤ b
-neg-mul-neg a b = rw (diff_of a, diff_of b) (simp diffs (diff_same _ _ _ _ (omega arith)))
-
--- the product of two negative numbers
-mul_neg_neg : (a b : ℤ) → a <ℤ pos 0 → b <ℤ pos 0 → pos 0 <ℤ (a *ℤ b)
-mul_neg_neg a b p q = omega (arith, ints, neg-mul-neg a b, mul_pos (neg_ℤ a) (neg_ℤ b) (omega (arith, ints)) (omega (arith, ints)))
-
-mul_nonpos_nonpos : (a b : ℤ) → a ≤ℤ pos 0 → b ≤ℤ pos 0 → pos 0 ≤ℤ (a *ℤ b)
-mul_nonpos_nonpos a b p q = omega (arith, ints, neg-mul-neg a b, mul_nonneg (neg_ℤ a) (neg_ℤ b) (omega (arith, ints)) (omega (arith, ints)))
 
 pub not_west : (d : Point) → IsEasterly d → pos 0 ≤ℤ d.x
 not_west d (east p) = omega (arith, ints)

@@ -1,39 +1,16 @@
 -- Places that stand in twos.
 use Rattle.std.proofs.Common.{arith, ◌≡◌, ◌≢◌, inl, inr, ℕ, zero, ◌+◌, ◌<◌, length, drop, get_or, ◌↔◌, suc, cond, List, [], ◌∷◌, Contains, IsPermutation, IsSorted, ap, subst, ◌∙◌, sym, refl}
 use Rattle.std.specs.Prelude.{count_by}
-use Rattle.std.specs.declared.cmp.Ordering.{Ordering}
-use Rattle.std.specs.declared.cmp.Ordering.TheVariants.{Less, Equal, Greater}
-use Rattle.std.specs.Cmp.{IsTotalOrder}
-use Rattle.std.specs.Ordering.{int_cmp, ordering_then, is_eq}
-use Rattle.std.proofs.lemmas.Bool.{true≢false, cases_lt, cases_order}
-use Rattle.std.proofs.lemmas.Cmp.{int_cmp_total, on_total, then_total}
+use Rattle.std.proofs.lemmas.Bool.{cases_lt, cases_order}
 use Rattle.std.proofs.lemmas.List.Elements.{All-nil, All-head, All-cons, All-weaker, All-contains}
 use Rattle.std.proofs.lemmas.List.Sorted.{All-permutation, sum_by-IsPermutation}
-use Rattle.std.proofs.lemmas.Map.Lookups.{CmpEqualImpliesEq, exact_signed}
 use Rattle.nest_base.specs.declared.places.Point.{Point}
+use Rattle.nest_base.specs.Order.{is_place, place_cmp}
+use Rattle.nest_base.proofs.Comparisons.{place_order, places_apart}
 use Rattle.nest_base.proofs.Lists.{Contains-later, Contains-none, All-from_contains}
-use Rattle.nest_base.proofs.Points.{same_place}
 use Rattle.nest_base.proofs.Sorted.{IsSorted-drop, not_later}
-use Rattle.loop_route.specs.Ends.{is_place, AreInTwos, IsRun}
+use Rattle.loop_route.specs.Ends.{AreInTwos, IsRun}
 use Rattle.loop_route.proofs.Degrees.{one_at-same, one_at-other, count-cons, count_found}
-
--- places compared by x, then by y
-abbrev pub place_cmp : Point → Point → Ordering
-place_cmp a b = ordering_then (int_cmp a.x b.x) (int_cmp a.y b.y)
-
-place_order : IsTotalOrder place_cmp
-place_order = then_total (on_total (λ (p : Point). p.x) int_cmp_total) (on_total (λ (p : Point). p.y) int_cmp_total)
-
-both_equal : (r s : Ordering) → ordering_then r s ≡ Equal → (r ≡ Equal) × (s ≡ Equal)
-both_equal Less s e = absurd (true≢false (sym (ap is_eq e)))
-both_equal Equal s e = (refl, e)
-both_equal Greater s e = absurd (true≢false (sym (ap is_eq e)))
-
--- places that compare as equal are one
-places_apart : CmpEqualImpliesEq place_cmp
-places_apart a b tied =
-    let both = both_equal (int_cmp a.x b.x) (int_cmp a.y b.y) tied in
-    same_place (exact_signed a.x b.x both.0) (exact_signed a.y b.y both.1)
 
 -- how many of the places are v
 abbrev count : List Point → Point → ℕ

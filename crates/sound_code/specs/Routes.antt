@@ -1,13 +1,10 @@
--- Routes along the edges or the segments of a drawing, and code that burns them.
+-- Routes along the edges of a drawing, and code that burns them.
 use Rattle.std.specs.Prelude.{◌≢◌, ℕ, ◌≤◌, List, [], ◌∷◌, length, None, All, AllPairs, IsPermutation}
 use Rattle.std.specs.List.{AllZip}
 use Rattle.nest_base.specs.declared.places.Point.{Point}
-use Rattle.nest_base.specs.declared.places.Segment.{Segment}
 use Rattle.nest_base.specs.declared.places.Edge.{Edge}
-use Rattle.nest_base.specs.HalfEdges.{IsHalfEdgeOf as IsHalfEdgeOfSegment}
 use Rattle.nest_base.specs.Order.{IsBefore}
-use Rattle.nest_base.specs.Plane.{MeetAtEndsOnly}
-use Rattle.nest_base.specs.Range.{IsSegmentWithin}
+use Rattle.nest_base.specs.Range.{IsEdgeWithin}
 use Rattle.nest_base.specs.Routes.{legs}
 use Rattle.plate_sides.specs.Sides.{IsHalfEdgeOf}
 use Rattle.plate_sides.specs.Components.{IsIn}
@@ -48,15 +45,13 @@ RouteIsOnePierce =
     (edges : List Edge) (mark : Point) (places : List Point) → All (IsIn edges mark) (legs places) →
     HasPierces edges (one_lighting places) mark 1
 
--- segments that code can cut: none of length zero, all within the range of places in code, and any two share nothing, or one point
--- that is an end of both
-pub record CanBeCut (segments : List Segment) : Type 0 where
-  pub none_empty : All (λ (s : Segment). s.a ≢ s.b) segments
-  pub within : All (IsSegmentWithin code_range) segments
-  pub apart : AllPairs MeetAtEndsOnly segments
+-- edges that code can cut: the ends of each differ, and lie within the range of places in code
+pub record CanBeCut (edges : List Edge) : Type 0 where
+  pub ends_in_order : All (λ (e : Edge). IsBefore e.low e.high) edges
+  pub within : All (IsEdgeWithin code_range) edges
 
--- a route that follows each such segment once, in this order, is a chain that can be written
+-- a route that follows each such edge once, in this order, is a chain that can be written
 abbrev pub RouteIsChain : Type 0
 RouteIsChain =
-    (segments order : List Segment) (places : List Point) → CanBeCut segments → 2 ≤ length places →
-    IsPermutation segments order → AllZip IsHalfEdgeOfSegment order (legs places) → IsChain places
+    (edges order : List Edge) (places : List Point) → CanBeCut edges → 2 ≤ length places →
+    IsPermutation edges order → AllZip IsHalfEdgeOf order (legs places) → IsChain places

@@ -9,7 +9,7 @@ pub fn burnt_route_is_sound()
     ensures pierce { RouteIsOnePierce }
 {}
 
-/// A route that follows segments which can be cut, each once, one way or the other, can be written as code.
+/// A route that follows edges which can be cut, each once, one way or the other, can be written as code.
 pub fn route_is_chain()
     ensures { RouteIsChain }
 {}

@@ -7,7 +7,7 @@ use Rattle.loop_route.proofs.ends.all_are_shared_by_two.Goals as goal
 pub returns : goal.returns
 unfolding AreInTwos
 returns c =
-    let ends = ends_of c.args.segments.now in
+    let ends = ends_of c.args.edges.now in
     let sorted = c.sort_unstable.new.self.items in
     let moved : IsPermutation ends sorted = rw (c.in_ok-places.ensures) at c.sort_unstable.ensures.permutation in
     let shared = rw (c.deref.ensures.value) at c.are_in_twos.ensures in

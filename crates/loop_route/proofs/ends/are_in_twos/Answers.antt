@@ -1,9 +1,10 @@
 use Rattle.std.proofs.Common.{subst, sym, ◌∙◌}
 use Rattle.std.proofs.lemmas.Bool.{eqb-true, eq-eqb}
 use Rattle.std.proofs.lemmas.List.{take_rest}
+use Rattle.nest_base.specs.Order.{place_cmp}
 use Rattle.nest_base.proofs.Sorted.{IsSorted-drop}
 use Rattle.loop_route.specs.Ends.{IsRun}
-use Rattle.loop_route.proofs.Twos.{place_cmp, none_in_twos, none_left, after_two}
+use Rattle.loop_route.proofs.Twos.{none_in_twos, none_left, after_two}
 use Rattle.loop_route.proofs.ends.are_in_twos.Goals as goal
 
 pub loop-rest-preserved : goal.loop-rest-preserved

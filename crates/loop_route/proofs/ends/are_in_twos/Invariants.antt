@@ -1,6 +1,6 @@
 use Rattle.std.proofs.Common.{◌↔◌, IsSorted, length}
+use Rattle.nest_base.specs.Order.{place_cmp}
 use Rattle.loop_route.specs.Ends.{AreInTwos}
-use Rattle.loop_route.proofs.Twos.{place_cmp}
 use Rattle.loop_route.proofs.ends.are_in_twos.Given as goal
 
 abbrev pub invariant-loop-rest : goal.invariant-loop-rest

@@ -6,22 +6,22 @@ use Rattle.loop_route.proofs.mark.mark_side.Goals.{in-Some, in_default}
 
 pub loop-index-preserved : goal.loop-index-preserved
 loop-index-preserved c =
-    let segments = c.args.segments.now in
+    let edges = c.args.edges.now in
     let mark = c.args.mark in
     let index = c.loop-index.index in
-    let within : index < length segments = omega arith in
+    let within : index < length edges = omega arith in
     elim c.match-other_end.branch [
-      | in-Some w ↦ rw w.best-is (best_with segments mark c.requires.mark c.requires.none_empty index _ c.loop-index.best w.in-Some.to w.last_side.result within w.in-Some.ensures.reached w.last_side.ensures.first w.last_side.ensures.later w.last_side.ensures.kept c.loop-index.invariant)
-      | in_default w ↦ rw w.best-is (best_without segments mark c.requires.mark c.requires.none_empty index _ c.loop-index.best within w.in_default.ensures.none.0 w.in_default.ensures.none.1 c.loop-index.invariant)
+      | in-Some w ↦ rw w.best-is (best_with edges mark c.requires.mark c.requires.ends_in_order index _ c.loop-index.best w.in-Some.to w.last_side.result within w.in-Some.ensures.reached w.last_side.ensures.first w.last_side.ensures.later w.last_side.ensures.kept c.loop-index.invariant)
+      | in_default w ↦ rw w.best-is (best_without edges mark c.requires.mark c.requires.ends_in_order index _ c.loop-index.best within w.in_default.ensures.none.0 w.in_default.ensures.none.1 c.loop-index.invariant)
     ]
 
 pub unwrap-requires : goal.unwrap-requires
 unwrap-requires c =
-    let all = take_all c.loop-index.index c.args.segments.now (omega arith) in
-    some_side c.args.segments.now c.args.mark c.requires.mark c.requires.none_empty c.loop-index.best (rw all at c.loop-index.invariant)
+    let all = take_all c.loop-index.index c.args.edges.now (omega arith) in
+    some_side c.args.edges.now c.args.mark c.requires.mark c.requires.ends_in_order c.loop-index.best (rw all at c.loop-index.invariant)
 
 pub returns-clause-side : goal.returns-clause-side
 returns-clause-side c =
-    let all = take_all c.loop-index.index c.args.segments.now (omega arith) in
+    let all = take_all c.loop-index.index c.args.edges.now (omega arith) in
     let known = rw (all, c.unwrap.ensures) at c.loop-index.invariant in
-    is_mark_side c.args.segments.now c.args.mark c.requires.mark c.requires.none_empty c.unwrap.result known
+    is_mark_side c.args.edges.now c.args.mark c.requires.mark c.requires.ends_in_order c.unwrap.result known

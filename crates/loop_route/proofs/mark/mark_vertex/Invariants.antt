@@ -1,7 +1,7 @@
-use Rattle.std.proofs.Common.{take, Contains}
-use Rattle.loop_route.specs.Ends.{ends_of}
+use Rattle.std.proofs.Common.{take}
+use Rattle.plate_sides.specs.Sides.{IsVertex}
 use Rattle.loop_route.proofs.Marks.{IsFirstOf}
 use Rattle.loop_route.proofs.mark.mark_vertex.Given as goal
 
-abbrev pub invariant-loop-s : goal.invariant-loop-s
-invariant-loop-s l = record { vertex : Contains (ends_of l.segments) l.mark; first : IsFirstOf (take l.s-index l.segments) l.mark }
+abbrev pub invariant-loop-e : goal.invariant-loop-e
+invariant-loop-e l = record { vertex : IsVertex l.edges l.mark; first : IsFirstOf (take l.e-index l.edges) l.mark }

@@ -8,7 +8,7 @@ loop-leg-init c =
     let side = c.mark_side-side.result in
     let taken = rw c.in_ok-rest.ensures.items at c.swap_remove.ensures.value in
     rw (c.in_ok-push-2.ensures.items, c.in_ok-push.ensures.items, c.in_ok-places.ensures.items, c.swap_remove.ensures.items, c.in_ok-rest.ensures.items)
-    (trail_begun c.args.segments.now c.args.mark side.to side.index c.swap_remove.result c.mark_side-side.ensures.side c.mark_side-side.ensures.followed taken)
+    (trail_begun c.args.edges.now c.args.mark side.to side.index c.swap_remove.result c.mark_side-side.ensures.side c.mark_side-side.ensures.followed taken)
 
 pub swap_remove-requires-in-Some : goal.swap_remove-requires-in-Some
 swap_remove-requires-in-Some c =
@@ -19,4 +19,4 @@ pub loop-leg-preserved : goal.loop-leg-preserved
 loop-leg-preserved c =
     let found = rw c.deref.ensures.value at c.in-Some.ensures.found in
     rw (c.in_ok-push-3.ensures.items, c.swap_remove-in-Some.ensures.items)
-    (trail_more c.args.segments.now c.args.mark c.loop-leg.places.items c.loop-leg.last c.loop-leg.rest.items c.in-Some.leg.index c.swap_remove-in-Some.result c.in-Some.leg.to c.loop-leg.invariant found c.swap_remove-in-Some.ensures.value)
+    (trail_more c.args.edges.now c.args.mark c.loop-leg.places.items c.loop-leg.last c.loop-leg.rest.items c.in-Some.leg.index c.swap_remove-in-Some.result c.in-Some.leg.to c.loop-leg.invariant found c.swap_remove-in-Some.ensures.value)
