@@ -1,12 +1,15 @@
 -- The lines that are printed for refusals.
 use Rattle.std.specs.Prelude.{ℕ, ◌||◌, nat_lt, if◌then◌else◌, List, ◌++◌, map, codes, decimal}
 use Rattle.std.specs.Fmt.{signed_decimal}
+use Rattle.micron_decimals.specs.Decimals.{micron_text}
 use Rattle.dxf_groups.specs.declared.answers.GroupError.{GroupError}
 use Rattle.dxf_groups.specs.declared.answers.GroupError.TheVariants.{Binary, BadCode, LineTooLong, Truncated}
 use Rattle.dxf_entities.specs.declared.error.Kind.{Kind}
 use Rattle.dxf_entities.specs.declared.error.Kind.TheVariants.{Entity, Flags, Bulge, Extrusion}
 use Rattle.dxf_entities.specs.declared.error.DrawingError.{DrawingError}
 use Rattle.dxf_entities.specs.declared.error.DrawingError.TheVariants.{Groups, NotANumber, TooFar, Missing, Unsupported, TooMany, Nothing, OutOfMemory}
+use Rattle.segment_split.specs.declared.splitting.SplitError.{SplitError}
+use Rattle.segment_split.specs.declared.splitting.SplitError.TheVariants.{Crossing, TooManyPieces, OutOfMemory as NoMemory}
 
 -- a byte as it's printed: one that doesn't print as it is becomes `?`
 abbrev pub shown_byte : ℕ → ℕ
@@ -44,3 +47,10 @@ reading_text (Unsupported line kind) = at_line (codes "refused E8") line (kind_t
 reading_text (TooMany line) = at_line (codes "refused E9") line (codes "too many")
 reading_text Nothing = codes "refused E10 nothing to cut"
 reading_text OutOfMemory = codes "out of memory"
+
+-- what is printed for a drawing that isn't split, without the end of the line
+abbrev pub splitting_text : SplitError → List ℕ
+splitting_text (Crossing first second place) =
+    codes "refused E11 segments " ++ decimal first ++ codes " and " ++ decimal second ++ codes " cross off the lattice near " ++ micron_text place.x ++ codes " " ++ micron_text place.y
+splitting_text TooManyPieces = codes "refused E12 more than 2000000 pieces"
+splitting_text NoMemory = codes "out of memory"

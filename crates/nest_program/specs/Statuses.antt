@@ -4,12 +4,14 @@ use Rattle.cut_desk.specs.Outside.{Outside, Rose, SameHeld, IsPartlyWritten, IsP
 use Rattle.code_moves.specs.Meaning.{code_refusal_of, moves_of}
 use Rattle.dxf_entities.specs.declared.error.DrawingError.TheVariants.{OutOfMemory}
 use Rattle.dxf_drawing.specs.Drawings.{segments_of, read_refusal_of}
-use Rattle.nest_program.specs.FaultText.{reading_text}
+use Rattle.segment_split.specs.Splits.{IsSplitRefusal}
+use Rattle.segment_split.specs.declared.splitting.SplitError.TheVariants.{OutOfMemory as NoMemory}
+use Rattle.nest_program.specs.FaultText.{reading_text, splitting_text}
 use Rattle.nest_program.specs.Outputs.{IsAccepted, IsNoLoop, IsOutput}
 use Rattle.nest_program.specs.Promise.{IsOrderEnclosingPlan}
 use Rattle.nest_program.specs.declared.status.Early.TheVariants.{NotOneLoop}
 use Rattle.nest_program.specs.declared.status.Refusal.{Refusal}
-use Rattle.nest_program.specs.declared.status.Refusal.TheVariants.{Reading}
+use Rattle.nest_program.specs.declared.status.Refusal.TheVariants.{Reading, Splitting}
 use Rattle.nest_program.specs.declared.status.Status.{Status}
 use Rattle.nest_program.specs.declared.status.Status.TheVariants.{Done, Words, ReadFault, TooLong, Drawing, Early, WriteFault, PrintFault, Memory}
 
@@ -27,6 +29,7 @@ exit_code_of Memory = 6
 -- the line of a refused drawing
 abbrev pub refusal_text : Refusal → List ℕ
 refusal_text (Reading e) = reading_text e ++ codes "\n"
+refusal_text (Splitting e) = splitting_text e ++ codes "\n"
 
 -- the line that is printed for a status
 abbrev pub fault_text : Status → List ℕ
@@ -43,6 +46,7 @@ fault_text Memory = codes "out of memory\n"
 -- the drawing is refused, and for this reason first
 abbrev pub IsRefused : List ℕ → Refusal → Type 0
 IsRefused file (Reading e) = (read_refusal_of file ≡ Some e) × (e ≢ OutOfMemory)
+IsRefused file (Splitting e) = (read_refusal_of file ≡ None) × IsSplitRefusal e (segments_of file) × (e ≢ NoMemory)
 
 -- what a status says of the drawing in IN: with every status but a read fault and want of memory it's decided
 abbrev pub IsDecided : Status → List ℕ → Type 0

@@ -2,12 +2,15 @@
 ghost use Rattle.std.specs.Prelude.{◌≡◌, ◌≤◌, ◌++◌, List, ℕ, length, codes};
 ghost use Rattle.std.specs.Fmt.{signed_decimal};
 ghost use Rattle.nest_program.specs.Statuses.{refusal_text, fault_text};
-ghost use Rattle.nest_program.specs.FaultText.{at_line, group_text, kind_text, reading_text};
+ghost use Rattle.segment_split.specs.declared.splitting.SplitError.TheVariants.{Crossing};
+ghost use Rattle.nest_program.specs.FaultText.{at_line, group_text, kind_text, reading_text, splitting_text};
 
 use crate::line::FaultLine;
 use crate::status::{Early, Refusal, Status};
 use dxf_drawing::{DrawingError, Kind};
 use dxf_groups::GroupError;
+use nest_base::Point;
+use segment_split::SplitError;
 
 /// The line of a refusal at a line of the drawing, before the reason.
 fn line_at(refused: &[u8], line: u32) -> FaultLine
@@ -93,12 +96,46 @@ fn reading_line(e: &DrawingError) -> FaultLine
     }
 }
 
+/// The line of two segments that cross off the lattice, without its end.
+fn crossing_line(first: u32, second: u32, place: Point) -> FaultLine
+    ensures text { result ≡ splitting_text (Crossing first second place) }
+    ensures short { length result ≤ 255 }
+{
+    let mut text = FaultLine::of(b"refused E11 segments ");
+    text.put_number(first);
+    text.put(b" and ");
+    text.put_number(second);
+    text.put(b" cross off the lattice near ");
+    text.put_micron(place.x);
+    text.put(b" ");
+    text.put_micron(place.y);
+    text
+}
+
+/// The line of a drawing that isn't split, without its end.
+fn splitting_line(e: &SplitError) -> FaultLine
+    ensures text { result ≡ splitting_text e.now }
+    ensures short { length result ≤ 255 }
+{
+    match e {
+        SplitError::Crossing {
+            first,
+            second,
+            place,
+        } => crossing_line(*first, *second, *place),
+        SplitError::TooManyPieces => FaultLine::of(b"refused E12 more than 2000000 pieces"),
+        SplitError::OutOfMemory => FaultLine::of(b"out of memory"),
+    }
+}
+
 /// The line of a drawing that is refused.
 fn refused_line(refusal: &Refusal) -> FaultLine
     ensures { result ≡ refusal_text refusal.now }
 {
-    let Refusal::Reading(e) = refusal;
-    let mut line = reading_line(e);
+    let mut line = match refusal {
+        Refusal::Reading(e) => reading_line(e),
+        Refusal::Splitting(e) => splitting_line(e),
+    };
     line.put(b"\n");
     line
 }

@@ -1,9 +1,11 @@
 //! One printed line, in memory of a fixed size.
 ghost use Rattle.std.specs.Prelude.{◌≡◌, ◌≤◌, ◌+◌, ◌++◌, [], length, decimal};
 ghost use Rattle.std.specs.Fmt.{signed_decimal};
+ghost use Rattle.micron_decimals.specs.Decimals.{micron_text};
 ghost use Rattle.nest_program.specs.FaultText.{shown, shown_byte};
 
 use itoa::Buffer;
+use micron_decimals::write_micron;
 use std::marker::Model;
 
 /// The bytes of a line; it has room for 256.
@@ -65,6 +67,17 @@ impl FaultLine {
     {
         let mut buffer = Buffer::new();
         self.put(buffer.format(n).as_bytes());
+    }
+
+    /// Adds micrometres as millimetres.
+    pub fn put_micron(&mut self, value: i64)
+        requires { length self.old + 40 ≤ 256 }
+        ensures text { self.new ≡ self.old ++ micron_text value }
+        ensures short { length self.new ≤ length self.old + 40 }
+    {
+        let mut digits = [0; 24];
+        let count = write_micron(value, &mut digits);
+        self.put(&digits[..count]);
     }
 
     /// Adds a name, each byte that doesn't print as it is as `?`.

@@ -1,7 +1,9 @@
 //! From the bytes of a drawing to the code and the report, all in memory.
-ghost use Rattle.std.specs.Prelude.{◌≡◌, ◌≤◌, ◌^◌, ◌∷◌, [], length, IfOk, IfErr};
+ghost use Rattle.std.specs.Prelude.{◌≡◌, ◌≤◌, ◌^◌, ◌∷◌, [], length, All, IfOk, IfErr};
+ghost use Rattle.nest_base.specs.Order.{IsBefore};
+ghost use Rattle.nest_base.specs.Range.{IsEdgeWithin};
 ghost use Rattle.code_moves.specs.CodeText.{code_text};
-ghost use Rattle.nest_program.specs.Outputs.{IsOutput};
+ghost use Rattle.nest_program.specs.Outputs.{IsDrawingOf, IsOutput};
 ghost use Rattle.nest_program.specs.Reasons.{IsReason};
 ghost use Rattle.nest_program.specs.declared.output.PlanError.TheVariants.{OutOfMemory as NoMemory};
 
@@ -9,8 +11,9 @@ use crate::report::put_loop_report;
 use crate::status::{Early, Refusal};
 use dxf_drawing::{DrawingError, read_drawing};
 use loop_route::route_round;
-use nest_base::{OutOfMemory, Point, Text};
+use nest_base::{Edges, OutOfMemory, Point, Text};
 use ngc_writer::{write_chain, write_head, write_tail};
+use segment_split::{SplitError, split};
 use std::alloc::Global;
 use thiserror::Error;
 
@@ -52,10 +55,12 @@ fn code_of(alloc: Global, places: &[Point]) -> Result<Text, OutOfMemory>
     Ok(code)
 }
 
-/// The code and the report of a drawing, or why it gives none.
-pub fn output_of(alloc: Global, bytes: &[u8]) -> Result<Output, PlanError>
+/// The edges of a drawing, or why it gives none.
+fn edges_of(alloc: Global, bytes: &[u8]) -> Result<Edges, PlanError>
     requires few { length bytes.now ≤ 2 ^ 26 }
-    ensures ok { IfOk result (λ output. IsOutput bytes.now output.code output.report) }
+    ensures edges { IfOk result (λ edges. IsDrawingOf bytes.now edges) }
+    ensures ends_in_order { IfOk result (λ edges. All (λ e. IsBefore e.low e.high) edges) }
+    ensures within { IfOk result (λ edges. All (IsEdgeWithin 100000000) edges) }
     ensures refused { IfErr result (λ why. IsReason why bytes.now) }
 {
     let drawing = match read_drawing(alloc, bytes) {
@@ -63,11 +68,25 @@ pub fn output_of(alloc: Global, bytes: &[u8]) -> Result<Output, PlanError>
         Err(DrawingError::OutOfMemory) => return Err(PlanError::OutOfMemory),
         Err(why) => return Err(PlanError::Refused(Refusal::Reading(why))),
     };
-    let Some(places) = route_round(alloc, drawing.segments())? else {
+    match split(alloc, &drawing) {
+        Ok(edges) => Ok(edges),
+        Err(SplitError::OutOfMemory) => Err(PlanError::OutOfMemory),
+        Err(why) => Err(PlanError::Refused(Refusal::Splitting(why))),
+    }
+}
+
+/// The code and the report of a drawing, or why it gives none.
+pub fn output_of(alloc: Global, bytes: &[u8]) -> Result<Output, PlanError>
+    requires few { length bytes.now ≤ 2 ^ 26 }
+    ensures ok { IfOk result (λ output. IsOutput bytes.now output.code output.report) }
+    ensures refused { IfErr result (λ why. IsReason why bytes.now) }
+{
+    let edges = edges_of(alloc, bytes)?;
+    let Some(places) = route_round(alloc, edges.as_slice())? else {
         return Err(PlanError::Early(Early::NotOneLoop));
     };
     let code = code_of(alloc, places.as_slice())?;
     let mut report = Text::new(alloc);
-    put_loop_report(drawing.segments().len(), &mut report)?;
+    put_loop_report(edges.as_slice().len(), &mut report)?;
     Ok(Output { code, report })
 }

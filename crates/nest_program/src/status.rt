@@ -3,18 +3,21 @@ ghost use Rattle.std.specs.Prelude.{◌≡◌};
 ghost use Rattle.nest_program.specs.Statuses.{exit_code_of};
 
 use dxf_drawing::DrawingError;
+use segment_split::SplitError;
 
 /// Why a drawing is refused.
 #[derive(Debug, Drop)]
 pub enum Refusal {
     /// It can't be read.
     Reading(DrawingError),
+    /// Two of its segments cross off the lattice, or they have too many pieces.
+    Splitting(SplitError),
 }
 
-/// Why a drawing that was read isn't planned, as long as one simple closed loop is all that is.
+/// Why a drawing that was split isn't planned, as long as one simple closed loop is all that is.
 #[derive(Clone, Copy, Debug, PartialEq, Eq, Drop)]
 pub enum Early {
-    /// Its segments aren't one simple closed loop.
+    /// Its edges aren't one simple closed loop.
     NotOneLoop,
 }
 

@@ -2,6 +2,7 @@ mod counts;
 mod loops;
 mod planned;
 mod refused;
+mod splits;
 
 use crate::run::run;
 use crate::status::{Early, Status};

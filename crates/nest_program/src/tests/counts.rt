@@ -4,14 +4,20 @@ use super::{HEAD, is_refused, put_lines};
 use anyhow::Result;
 use std::alloc::Global;
 
-/// Twelve lines for a segment.
-const LINE: &str = "0=LINE|8=0|10=0|20=0|11=1|21=0|";
+/// Twelve lines for a segment. `#` stands for its number, from 0.
+const LINE: &str = "0=LINE|8=0|10=#|20=0|11=#|21=1|";
 
 /// Twelve lines for two vertices, and for two segments where more vertices follow.
-const VERTICES: &str = "0=VERTEX|10=0|20=0|0=VERTEX|10=1|20=0|";
+const VERTICES: &str = "0=VERTEX|10=#|20=0|0=VERTEX|10=#.5|20=0|";
 
 /// Eight lines for a name.
 const NAME: &str = "0=TEXT|10=5|20=5|1=A|";
+
+/// A level and an upright line of a grid of a thousand by a thousand cells.
+const GRID: &str = "0=LINE|10=0|20=#|11=1000|21=#|0=LINE|10=#|20=0|11=#|21=1000|";
+
+/// The same of a grid with one line less each way.
+const SMALLER_GRID: &str = "0=LINE|10=0|20=#|11=999|21=#|0=LINE|10=#|20=0|11=#|21=999|";
 
 /// What stands behind the head of a part of entities: one text, another one so often, a third one, and why that's refused.
 type Case = (
@@ -124,6 +130,52 @@ const NAMES: [Case; 3] = [
     ),
 ];
 
+/// Grids and what is drawn beside them. The larger one has 2,002,000 pieces, the smaller one 1,998,000; a level line across the
+/// smaller one cuts the upright ones once more, which gives 1,999 pieces.
+const GRIDS: [Case; 4] = [
+    (
+        "|",
+        GRID,
+        1_001,
+        "0=ENDSEC|0=EOF|",
+        "E12 more than 2000000 pieces",
+    ),
+    (
+        "|",
+        SMALLER_GRID,
+        1_000,
+        "0=LINE|10=0|20=0.5|11=999|21=0.5|0=LINE|10=-5|20=0|11=-5|21=1|0=ENDSEC|0=EOF|",
+        "not one loop",
+    ),
+    (
+        "|",
+        SMALLER_GRID,
+        1_000,
+        "0=LINE|10=0|20=0.5|11=999|21=0.5|0=LINE|10=-5|20=0|11=-5|21=1|0=LINE|10=-5|20=1|11=-5|21=0|0=ENDSEC|0=EOF|",
+        "E12 more than 2000000 pieces",
+    ),
+    // A crossing off the lattice comes first.
+    (
+        "|",
+        GRID,
+        1_001,
+        "0=LINE|10=0|20=-10|11=10|21=-3|0=LINE|10=0|20=-8|11=10|21=-10|0=ENDSEC|0=EOF|",
+        "E11 segments 2003 and 2004 cross off the lattice near 2.222 -8.445",
+    ),
+];
+
+/// Appends a text with a number in the place of each `#`.
+fn put_numbered(alloc: Global, text: &[u8], number: usize, out: &mut Vec<u8>) -> Result<()> {
+    for byte in text {
+        if *byte == b'#' {
+            out.extend_from_slice(format!(in alloc; "{number}")?.as_bytes())?;
+        } else {
+            out.push(*byte)?;
+        }
+    }
+    Ok(())
+}
+
 fn are_counted(alloc: Global, cases: &[Case]) -> Result<()> {
     for (front, piece, count, rear, why) in cases {
         let mut lines = Vec::new(alloc);
@@ -131,8 +183,8 @@ fn are_counted(alloc: Global, cases: &[Case]) -> Result<()> {
         let mut file = Vec::new(alloc);
         put_lines(HEAD, "\n", &mut file)?;
         put_lines(front, "\n", &mut file)?;
-        for _ in 0..*count {
-            file.extend_from_slice(&lines)?;
+        for number in 0..*count {
+            put_numbered(alloc, &lines, number, &mut file)?;
         }
         put_lines(rear, "\n", &mut file)?;
         is_refused(alloc, rear, &file, why)?;
@@ -153,4 +205,9 @@ fn sides_of_polylines_are_counted(rt: HostRuntime) -> Result<()> {
 #[test]
 fn names_are_counted(rt: HostRuntime) -> Result<()> {
     are_counted(rt.alloc(), &NAMES)
+}
+
+#[test]
+fn pieces_are_counted(rt: HostRuntime) -> Result<()> {
+    are_counted(rt.alloc(), &GRIDS)
 }

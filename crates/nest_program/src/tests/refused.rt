@@ -393,7 +393,7 @@ const BEHIND_A_SQUARE: [(&str, &str); 8] = [
         "E6 line 60 beyond the range",
     ),
     ("0=LINE|10=0|20=0|21=0", "E7 line 54 lacks group 11"),
-    ("0=LINE|10=0|20=0|11=10|21=0", "not one loop"),
+    ("0=LINE|10=0|20=0|11=10|21=10", "not one loop"),
     ("0=LINE|10=2|20=2|11=8|21=8", "not one loop"),
     (
         "0=POLYLINE|70=1|0=VERTEX|10=2|20=2|0=VERTEX|10=8|20=8|0=SEQEND",
