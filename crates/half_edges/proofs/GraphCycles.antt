@@ -1,0 +1,173 @@
+-- The half-edges of a graph stand in cycles, by number.
+use Rattle.std.proofs.Common.{arith, ◌≡◌, ◌≢◌, ℕ, ◌+◌, ◌<◌, inl, inr, List, Some, length, slice_get, get_or, refl, sym, ap, subst, ◌∙◌}
+use Rattle.std.specs.Prelude.{AllPairs, slice_index}
+use Rattle.std.proofs.lemmas.Bool.{cases_order}
+use Rattle.std.proofs.lemmas.Option.{slice_get_within, get_or_from_slice_get, slice_get-get_or}
+use Rattle.std.proofs.lemmas.List.{get_or_default}
+use Rattle.std.proofs.lemmas.List.Elements.{All-contains}
+use Rattle.nest_base.specs.declared.places.Point.{Point}
+use Rattle.nest_base.specs.declared.places.Edge.{Edge}
+use Rattle.nest_base.specs.Plane.{HalfEdge, twin}
+use Rattle.nest_base.specs.Order.{IsBefore}
+use Rattle.nest_base.proofs.Orders.{IsBefore-irrefl}
+use Rattle.plate_sides.specs.Sides.{forth, IsHalfEdgeOf}
+use Rattle.plate_sides.proofs.HalfEdges.{one_edge}
+use Rattle.half_edges.specs.Numbers.{half_edges_of, IsSide}
+use Rattle.half_edges.specs.Rings.{IsBeforeRound, IsRing}
+use Rattle.half_edges.specs.Graph.{Graph, IsGraph, origin_of, place_of, degree_of, side_in}
+use Rattle.half_edges.proofs.Items.{read_below, one_read, Contains-from_read, AllPairs-reads}
+use Rattle.half_edges.proofs.Numbers.{side_of, IsSideOf}
+use Rattle.half_edges.proofs.Neighbours.{one_number as vertex_number}
+use Rattle.half_edges.proofs.Rounds.{IsBeforeFromWest-asym, one_ring}
+use Rattle.half_edges.proofs.GraphReads.{ring_of, block_long, place_within, side_in_ring, first_in_ring, position_within, position_read}
+use Rattle.half_edges.proofs.Cycles.{InCycles}
+
+-- what has an order that nothing has with itself stands at one place
+pub one_place : {X : Type 0} (R : X → X → Type 0) (xs : List X) (i j : ℕ) (x : X) → ((x : X) → R x x → ⊥) → AllPairs R xs →
+    slice_get xs i ≡ Some x → slice_get xs j ≡ Some x → i ≡ j
+one_place R xs i j x irrefl pairs at_i at_j = elim (cases_order i j) [
+  | inl same ↦ same
+  | inr (inl less) ↦ absurd (irrefl x (AllPairs-reads R xs i j x x pairs less at_i at_j))
+  | inr (inr more) ↦ absurd (irrefl x (AllPairs-reads R xs j i x x pairs more at_j at_i))
+]
+
+-- a half-edge with a number of an edge belongs to it
+half_of_number : (edges : List Edge) (s k : ℕ) (h : HalfEdge) (e : Edge) → IsSideOf edges s h k e → IsHalfEdgeOf e h
+half_of_number edges s k h e (at, inl (number, is)) = inl is
+half_of_number edges s k h e (at, inr (number, is)) = inr is
+
+-- the two half-edges of an edge differ
+not_its_twin : (e : Edge) → IsBefore e.low e.high → forth e ≡ twin (forth e) → ⊥
+not_its_twin e ordered same = IsBefore-irrefl e.low e.high ordered (ap (λ (h : HalfEdge). h.from) same)
+
+one_of_two : (edges : List Edge) (s t k : ℕ) (h : HalfEdge) (e : Edge) → IsBefore e.low e.high → IsSideOf edges s h k e → IsSideOf edges t h k e → s ≡ t
+one_of_two edges s t k h e ordered (at, inl p) (also, inl q) = p.0 ∙ sym q.0
+one_of_two edges s t k h e ordered (at, inl p) (also, inr q) = absurd (not_its_twin e ordered (sym p.1 ∙ q.1))
+one_of_two edges s t k h e ordered (at, inr p) (also, inl q) = absurd (not_its_twin e ordered (sym q.1 ∙ p.1))
+one_of_two edges s t k h e ordered (at, inr p) (also, inr q) = p.0 ∙ sym q.0
+
+module _ {graph : Graph} (known : IsGraph graph) where
+  ordered_at : (k : ℕ) (e : Edge) → slice_get graph.edges k ≡ Some e → IsBefore e.low e.high
+  ordered_at k e at = All-contains (λ (f : Edge). IsBefore f.low f.high) graph.edges e known.ends_in_order (Contains-from_read graph.edges k e at)
+
+  -- a half-edge has one number
+  pub one_number : (s t : ℕ) (h : HalfEdge) → IsSide graph.edges s h → IsSide graph.edges t h → s ≡ t
+  one_number s t h is_s is_t = of (side_of graph.edges s h is_s) (side_of graph.edges t h is_t)
+    where
+      of : (k : ℕ) × (e : Edge) × IsSideOf graph.edges s h k e → (k : ℕ) × (e : Edge) × IsSideOf graph.edges t h k e → s ≡ t
+      of (k, e, is) (j, f, also) =
+          let one = one_edge e f h (ordered_at k e is.0) (ordered_at j f also.0) (half_of_number graph.edges s k h e is) (half_of_number graph.edges t j h f also) in
+          let same : k ≡ j = one_place (λ (a b : Edge). a ≢ b) graph.edges k j e (λ a other. other refl) known.each_once is.0 (also.0 ∙ ap Some (sym one)) in
+          one_of_two graph.edges s t k h e (ordered_at k e is.0) is
+          (subst (λ (d : Edge). IsSideOf graph.edges t h k d) (sym one) (subst (λ m. IsSideOf graph.edges t h m f) (sym same) also))
+
+  -- a vertex too
+  pub one_vertex : (u v : ℕ) (p : Point) → slice_get graph.vertices u ≡ Some p → slice_get graph.vertices v ≡ Some p → u ≡ v
+  one_vertex u v p at_u at_v = vertex_number graph.edges graph.vertices u v p known.layout.are_vertices at_u at_v
+
+  -- the vertex that a half-edge leaves has the number that is told
+  pub origin_is : (s v : ℕ) (h : HalfEdge) → IsSide graph.edges s h → slice_get graph.vertices v ≡ Some h.from → origin_of graph s ≡ v
+  origin_is s v h is at =
+      let vertex = known.layout.leaves s h is in
+      get_or_from_slice_get graph.origins s vertex.0 0 vertex.1 ∙ one_vertex vertex.0 v h.from vertex.2 at
+
+  -- the first half-edge of a vertex leaves it
+  pub first_leaves : (v first s : ℕ) (p : Point) → slice_get graph.vertices v ≡ Some p → first ≡ get_or graph.starts v first → slice_get graph.all first ≡ Some s →
+      (s < length (half_edges_of graph.edges)) × (origin_of graph s ≡ v)
+  first_leaves v first s p at is_first at_s =
+      let ring = ring_of known v p at in
+      let h = first_in_ring known v first s p at is_first at_s ring.0 ring.1 in
+      let from = ((ring.1.are_all h.0).0 (Contains-from_read ring.0 0 h.0 h.1)).1 in
+      (slice_get_within (half_edges_of graph.edges) s h.0 h.2, origin_is s v h.0 h.2 (at ∙ ap Some (sym from)))
+
+  -- what stands at a place of the lists of a graph
+  pub record IsRead (s : ℕ) : Type 0 where
+    pub half : HalfEdge
+    pub is_side : IsSide graph.edges s half
+    pub from : slice_get graph.vertices (origin_of graph s) ≡ Some half.from
+    pub ring : List HalfEdge
+    pub is_ring : IsRing graph.edges half.from ring
+    pub long : degree_of graph (origin_of graph s) ≡ length ring
+    pub stands : slice_get ring (place_of graph s) ≡ Some half
+
+  starts_read : (v : ℕ) → v < length graph.vertices + 1 → slice_index graph.starts v ≡ get_or graph.starts v (slice_index graph.starts v)
+  starts_read v below = get_or_default graph.starts v 0 (slice_index graph.starts v) (omega (arith, below, known.layout.one_more))
+
+  pub read : (s : ℕ) → s < length (half_edges_of graph.edges) → IsRead s
+  read s below =
+      let h = read_below (half_edges_of graph.edges) s below in
+      let vertex = known.layout.leaves s h.0 h.1 in
+      let number : vertex.0 ≡ origin_of graph s = sym (get_or_from_slice_get graph.origins s vertex.0 0 vertex.1) in
+      let from = subst (λ v. slice_get graph.vertices v ≡ Some h.0.from) number vertex.2 in
+      let v = origin_of graph s in
+      let within = slice_get_within graph.vertices v h.0.from from in
+      let ring = ring_of known v h.0.from from in
+      let long = block_long known v (slice_index graph.starts v) (slice_index graph.starts (v + 1)) h.0.from from
+      (starts_read v (omega (arith, within))) (starts_read (v + 1) (omega (arith, within))) ring.0 ring.1 in
+      let place = get_or_default graph.positions s 0 (place_of graph s) (position_within known s below) in
+      record {
+        half = h.0;
+        is_side = h.1;
+        from = from;
+        ring = ring.0;
+        is_ring = ring.1;
+        long = omega (arith, long);
+        stands = position_read known s (place_of graph s) place h.0 h.1 ring.0 ring.1;
+      }
+
+  pub origin_within : (s : ℕ) → s < length (half_edges_of graph.edges) → origin_of graph s < length graph.vertices
+  origin_within s below = let at = read s below in slice_get_within graph.vertices (origin_of graph s) at.half.from at.from
+
+  -- the half-edge at a place of the rotation has the number that stands there
+  pub side_there : (s : ℕ) (at : IsRead s) (k : ℕ) (x : HalfEdge) → slice_get at.ring k ≡ Some x → IsSide graph.edges (side_in graph (origin_of graph s) k) x
+  side_there s at k x stands =
+      let v = origin_of graph s in
+      let first = slice_index graph.starts v in
+      let is_first = starts_read v (omega (arith, slice_get_within graph.vertices v at.half.from at.from)) in
+      let inside = slice_get_within at.ring k x stands in
+      let within = place_within known v first k at.half.from at.from is_first
+      (λ other is_other. omega (arith, inside, ap (λ (xs : List HalfEdge). length xs) (one_ring graph.edges at.half.from at.ring other at.is_ring is_other))) in
+      let side = side_in_ring known v first k (side_in graph v k) at.half.from at.from is_first (slice_get-get_or graph.all (first + k) 0 within) at.ring at.is_ring inside in
+      subst (IsSide graph.edges (side_in graph v k)) (one_read at.ring k side.0 x side.1 stands) side.2
+
+  -- a half-edge of the rotation in which s stands
+  record IsMember (s : ℕ) (at : IsRead s) (k : ℕ) : Type 0 where
+    other : HalfEdge
+    stands_at : slice_get at.ring k ≡ Some other
+    has_number : IsSide graph.edges (side_in graph (origin_of graph s) k) other
+    same_from : other.from ≡ at.half.from
+
+  member : (s : ℕ) (at : IsRead s) (k : ℕ) → k < degree_of graph (origin_of graph s) → IsMember s at k
+  member s at k below =
+      let x = read_below at.ring k (omega (arith, below, at.long)) in
+      record { other = x.0; stands_at = x.1; has_number = side_there s at k x.0 x.1; same_from = ((at.is_ring.are_all x.0).0 (Contains-from_read at.ring k x.0 x.1)).1 }
+
+  member_within : (s : ℕ) (at : IsRead s) (k : ℕ) → k < degree_of graph (origin_of graph s) → side_in graph (origin_of graph s) k < length (half_edges_of graph.edges)
+  member_within s at k below =
+      let x = member s at k below in
+      slice_get_within (half_edges_of graph.edges) (side_in graph (origin_of graph s) k) x.other x.has_number
+
+  member_origin : (s : ℕ) (at : IsRead s) (k : ℕ) → k < degree_of graph (origin_of graph s) → origin_of graph (side_in graph (origin_of graph s) k) ≡ origin_of graph s
+  member_origin s at k below =
+      let x = member s at k below in
+      let t = side_in graph (origin_of graph s) k in
+      let also = read t (member_within s at k below) in
+      let half = one_read (half_edges_of graph.edges) t also.half x.other also.is_side x.has_number in
+      one_vertex (origin_of graph t) (origin_of graph s) at.half.from (also.from ∙ ap (λ (h : HalfEdge). Some h.from) half ∙ ap Some x.same_from) at.from
+
+  member_place : (s : ℕ) (at : IsRead s) (k : ℕ) → k < degree_of graph (origin_of graph s) → place_of graph (side_in graph (origin_of graph s) k) ≡ k
+  member_place s at k below =
+      let x = member s at k below in
+      let t = side_in graph (origin_of graph s) k in
+      let place = get_or_default graph.positions t 0 (place_of graph t) (position_within known t (member_within s at k below)) in
+      let stands = position_read known t (place_of graph t) place x.other x.has_number at.ring (subst (λ p. IsRing graph.edges p at.ring) (sym x.same_from) at.is_ring) in
+      one_place IsBeforeRound at.ring (place_of graph t) k x.other (λ h before. IsBeforeFromWest-asym _ _ before before) at.is_ring.in_order stands x.stands_at
+
+  pub half_edges_in_cycles : InCycles (length (half_edges_of graph.edges)) (origin_of graph) (place_of graph) (degree_of graph) (side_in graph)
+  half_edges_in_cycles = record {
+    place_below = λ s below. let at = read s below in omega (arith, at.long, slice_get_within at.ring (place_of graph s) at.half at.stands);
+    is_member = λ s below. let at = read s below in one_number _ s at.half (side_there s at (place_of graph s) at.half at.stands) at.is_side;
+    member_below = λ s k below. member_within s (read s below) k;
+    same_origin = λ s k below. member_origin s (read s below) k;
+    its_place = λ s k below. member_place s (read s below) k;
+  }

@@ -1,0 +1,109 @@
+-- A graph is a rotation system, and its components go along edges.
+use Rattle.std.proofs.Common.{arith, ◌≡◌, ◌≢◌, ℕ, zero, suc, ◌<◌, inl, inr, List, Some, length, slice_get, refl, sym, ap, subst, ◌∙◌}
+use Rattle.std.proofs.lemmas.Option.{slice_get_within, get_or_from_slice_get}
+use Rattle.nest_base.specs.declared.places.Point.{Point}
+use Rattle.nest_base.specs.declared.places.Edge.{Edge}
+use Rattle.nest_base.specs.Plane.{HalfEdge, twin}
+use Rattle.nest_base.specs.Order.{IsBefore, IsMarkedBefore}
+use Rattle.nest_base.specs.Walks.{against}
+use Rattle.nest_base.proofs.Walks.{Walk-then, Walk-back}
+use Rattle.std.proofs.lemmas.List.Elements.{All-contains}
+use Rattle.plate_sides.specs.Components.{SameComponent, IsMark}
+use Rattle.plate_sides.proofs.HalfEdges.{ends_differ}
+use Rattle.half_edges.specs.Numbers.{half_edges_of, twin_number}
+use Rattle.half_edges.specs.Graph.{Graph, IsGraph, rotation_of, part_of, origin_of, degree_of}
+use Rattle.half_edges.specs.Rotation.{IsRotation, Divides, to, turn, degree}
+use Rattle.half_edges.proofs.Items.{one_read, Contains-from_read}
+use Rattle.half_edges.proofs.Numbers.{length-half_edges, side_is_half_edge, side_from_half_edge}
+use Rattle.half_edges.proofs.MarkOrder.{IsMarkedBefore-asym, IsMarkedBefore-irrefl}
+use Rattle.half_edges.proofs.Twins.{IsSide-twin, twin_twice, twin_below}
+use Rattle.half_edges.proofs.Cycles.{steps, after_below, ahead_below, after_origin, ahead_origin, after_ahead, ahead_after, all_met}
+use Rattle.half_edges.proofs.Totals.{total-origin}
+use Rattle.half_edges.proofs.GraphReads.{is_vertex}
+use Rattle.half_edges.proofs.GraphCycles.{IsRead, read, one_place, origin_is, half_edges_in_cycles}
+
+-- the marks of one component are one
+one_mark : (edges : List Edge) (m n : Point) → IsMark edges m → IsMark edges n → SameComponent edges m n → m ≡ n
+one_mark edges m n is_m is_n joined = elim (is_n.first m joined) [
+  | inl same ↦ same
+  | inr before ↦ elim (is_m.first n (Walk-back joined)) [
+    | inl same ↦ sym same
+    | inr also ↦ absurd (IsMarkedBefore-asym n m before also)
+  ]
+]
+
+module _ {graph : Graph} (known : IsGraph graph) where
+  twin_within : (s : ℕ) → s < length (half_edges_of graph.edges) → twin_number s < length (half_edges_of graph.edges)
+  twin_within s below =
+      let long = length-half_edges graph.edges in
+      omega (arith, long, twin_below (length graph.edges) s (omega (arith, below, long)))
+
+  -- k steps on, in both words
+  turn_is_steps : (r k : ℕ) → turn (rotation_of graph) k r ≡ steps (half_edges_in_cycles known) k r
+  turn_is_steps r zero = refl
+  turn_is_steps r (suc k) = ap (rotation_of graph).ccw (turn_is_steps r k)
+
+  -- the half-edges that leave a vertex, counted
+  pub counted : (s : ℕ) → s < length (half_edges_of graph.edges) → degree (rotation_of graph) (origin_of graph s) ≡ degree_of graph (origin_of graph s)
+  counted s below = total-origin (half_edges_in_cycles known) s below
+
+  -- each vertex is left by some half-edge, so this holds of all vertices
+  pub counted_at : (v : ℕ) (p : Point) → slice_get graph.vertices v ≡ Some p → degree (rotation_of graph) v ≡ degree_of graph v
+  counted_at v p at =
+      let h = is_vertex known v p at in
+      let side = side_from_half_edge graph.edges h.0 h.1.0 in
+      let number = origin_is known side.0 v h.0 side.1 (at ∙ ap Some (sym h.1.1)) in
+      subst (λ u. degree (rotation_of graph) u ≡ degree_of graph u) number (counted side.0 (slice_get_within (half_edges_of graph.edges) side.0 h.0 side.1))
+
+  met : (r s : ℕ) → r < length (half_edges_of graph.edges) → s < length (half_edges_of graph.edges) → origin_of graph s ≡ origin_of graph r →
+      (k : ℕ) × (k < degree (rotation_of graph) (origin_of graph r)) × (turn (rotation_of graph) (suc k) r ≡ s)
+  met r s below_r below_s same =
+      let k = all_met (half_edges_in_cycles known) r s below_r below_s same in
+      (k.0, omega (arith, k.1, counted r below_r), turn_is_steps r (suc k.0) ∙ k.2)
+
+  -- what the twin of s is, where s is read
+  twin_half : (s : ℕ) (at : IsRead known s) (also : IsRead known (twin_number s)) → also.half ≡ twin at.half
+  twin_half s at also = one_read (half_edges_of graph.edges) (twin_number s) also.half (twin at.half) also.is_side (IsSide-twin graph.edges s at.half at.is_side)
+
+  -- the vertex to which s leads
+  led_to : (s : ℕ) (at : IsRead known s) (also : IsRead known (twin_number s)) → slice_get graph.vertices (origin_of graph (twin_number s)) ≡ Some at.half.to
+  led_to s at also = also.from ∙ ap (λ (h : HalfEdge). Some h.from) (twin_half s at also)
+
+  ends_apart : (s : ℕ) → s < length (half_edges_of graph.edges) → to (rotation_of graph) s ≢ origin_of graph s
+  ends_apart s below same =
+      let at = read known s below in
+      let half = side_is_half_edge graph.edges s at.half at.is_side in
+      let there = led_to s at (read known (twin_number s) (twin_within s below)) in
+      let place = one_read graph.vertices (origin_of graph s) at.half.to at.half.from (ap (slice_get graph.vertices) (sym same) ∙ there) at.from in
+      ends_differ half.0 at.half (All-contains (λ (f : Edge). IsBefore f.low f.high) graph.edges half.0 known.ends_in_order half.1) half.2 place
+
+  pub graph_is_rotation : IsRotation (rotation_of graph)
+  graph_is_rotation = record {
+    twin_in = twin_within;
+    ccw_in = after_below (half_edges_in_cycles known);
+    cw_in = ahead_below (half_edges_in_cycles known);
+    twin_twin = twin_twice;
+    no_loop = ends_apart;
+    cw_ccw = ahead_after (half_edges_in_cycles known);
+    ccw_cw = after_ahead (half_edges_in_cycles known);
+    ccw_from = after_origin (half_edges_in_cycles known);
+    cw_from = ahead_origin (half_edges_in_cycles known);
+    whole = met;
+  }
+
+  mark_at : (c : ℕ) (m : Point) → slice_get graph.marks c ≡ Some m → IsMark graph.edges m
+  mark_at c m at = (known.are_parts.are_marks.are_all m).0 (Contains-from_read graph.marks c m at)
+
+  pub parts_divide : Divides (rotation_of graph) (part_of graph)
+  parts_divide s below =
+      let at = read known s below in
+      let u = origin_of graph (twin_number s) in
+      let v = origin_of graph s in
+      let there = led_to s at (read known (twin_number s) (twin_within s below)) in
+      let part_u = known.are_parts.leads u at.half.to there in
+      let part_v = known.are_parts.leads v at.half.from at.from in
+      let joined = Walk-then (Walk-back part_u.4) (against (side_is_half_edge graph.edges s at.half at.is_side) part_v.4) in
+      let same = one_mark graph.edges part_u.1 part_v.1 (mark_at part_u.0 part_u.1 part_u.3) (mark_at part_v.0 part_v.1 part_v.3) joined in
+      let number = one_place IsMarkedBefore graph.marks part_u.0 part_v.0 part_u.1 (λ p before. IsMarkedBefore-irrefl p p before refl) known.are_parts.are_marks.in_order
+      part_u.3 (part_v.3 ∙ ap Some (sym same)) in
+      get_or_from_slice_get graph.parts u part_u.0 0 part_u.2 ∙ number ∙ sym (get_or_from_slice_get graph.parts v part_v.0 0 part_v.2)

@@ -1,0 +1,29 @@
+use Rattle.std.proofs.Common.{arith}
+use Rattle.half_edges.proofs.GraphSizes.{length-vertices-le}
+use Rattle.half_edges.proofs.Built.{edges_of_layout, graph_of_lists}
+use Rattle.half_edges.proofs.graph.PlaneGraph.build.Goals as goal
+
+pub all_round-requires-clause-apart : goal.all_round-requires-clause-apart
+all_round-requires-clause-apart c = rw c.as_slice.ensures c.requires.apart
+
+pub parts_of-requires-clause-few : goal.parts_of-requires-clause-few
+parts_of-requires-clause-few c =
+    let layout = rw (c.as_slice-2.ensures, c.deref.ensures.value) at c.in_ok-layout.ensures.layout in
+    omega (arith, c.requires.few, length-vertices-le c.args.edges.now c.in_ok-layout.layout.places.items layout.are_vertices)
+
+pub invariant_of-result : goal.invariant_of-result
+invariant_of-result c =
+    let all = rw c.as_slice.ensures at c.in_ok-all.ensures in
+    let layout = rw (c.as_slice-2.ensures, c.deref.ensures.value) at c.in_ok-layout.ensures.layout in
+    let positions = rw c.as_slice-2.ensures at c.in_ok-layout.ensures.positions in
+    let parts = rw c.deref-2.ensures.value at c.in_ok-parts.ensures in
+    graph_of_lists c.args.edges.now _ _ _ _ _ _ _ c.requires.few c.requires.ends_in_order all layout positions (parts c.args.edges.now layout)
+
+pub returns-clause-edges : goal.returns-clause-edges
+returns-clause-edges c = edges_of_layout c.args.edges.now _ _ _ _ (rw (c.as_slice-2.ensures, c.deref.ensures.value) at c.in_ok-layout.ensures.layout)
+
+pub returns-clause-marks : goal.returns-clause-marks
+returns-clause-marks c =
+    let layout = rw (c.as_slice-2.ensures, c.deref.ensures.value) at c.in_ok-layout.ensures.layout in
+    let parts = rw c.deref-2.ensures.value at c.in_ok-parts.ensures in
+    (parts c.args.edges.now layout).are_marks

@@ -1,0 +1,305 @@
+//! The plane graph, and what is read of it.
+ghost use Rattle.std.specs.Prelude.{◌≡◌, ◌≢◌, ◌≤◌, ◌<◌, length, slice_get, Some, All, AllPairs, Contains, List, IfOk, IfSome, IfNone, IsTrue, ◌↔◌};
+ghost use Rattle.nest_base.specs.Order.{IsBefore, IsMarkedBefore};
+ghost use Rattle.nest_base.specs.Range.{IsEdgeWithin};
+ghost use Rattle.nest_base.specs.Plane.{HalfEdge, twin};
+ghost use Rattle.plate_edges.specs.Points.{EdgesMeetAtEndsOnly};
+ghost use Rattle.plate_sides.specs.Sides.{IsVertex, IsHalfEdge, IsNextCcw, IsNextCw};
+ghost use Rattle.plate_sides.specs.Components.{SameComponent, AreMarks};
+ghost use Rattle.plate_sides.specs.Links.{IsAlong};
+ghost use Rattle.plate_covers.specs.Odd.{HasDegree};
+ghost use Rattle.half_edges.specs.Numbers.{half_edges_of, IsSide, twin_number};
+ghost use Rattle.half_edges.specs.Rings.{IsRing};
+ghost use Rattle.half_edges.specs.Layouts.{AreVertices};
+ghost use Rattle.half_edges.specs.Rotation.{IsRotation, Divides, to as end_in, along as along_in, degree as degree_in};
+ghost use Rattle.half_edges.specs.Graph.{rotation_of, origin_of, place_of, part_of, degree_of, side_in, ccw_of, cw_of};
+
+use crate::layout::{Layout, layout_of};
+use crate::parts::{Parts, parts_of};
+use crate::ring::all_round;
+use crate::sides::twin_of;
+use nest_base::{Component, Edges, OutOfMemory, Point, Side, VertexId};
+use std::alloc::Global;
+use std::marker::Model;
+
+/// The graph of the edges of a drawing. Contracts see its edges in their order, its vertices in the order of mark vertices, and the
+/// mark vertex of each component; and the lists of numbers in which its half-edges stand, from which `rotation_of` makes a rotation
+/// system.
+#[derive(Drop)]
+pub struct PlaneGraph {
+    layout: Layout,
+    /// All half-edges, vertex by vertex, and round each counterclockwise from west.
+    all: Vec<Side>,
+    parts: Parts,
+}
+
+impl Model for PlaneGraph {
+    ghost use Rattle.std.specs.Prelude.{map};
+    ghost use Rattle.half_edges.specs.Graph.{Graph, edges_between, IsGraph};
+
+    ghost Value = { Graph };
+
+    ghost view = { λ g. record {
+      edges = edges_between g.layout.places.items (map (λ v. v.0) g.layout.origins.items);
+      vertices = g.layout.places.items;
+      marks = g.parts.marks.items;
+      origins = map (λ v. v.0) g.layout.origins.items;
+      positions = g.layout.positions.items;
+      all = map (λ s. s.0) g.all.items;
+      starts = g.layout.starts.items;
+      parts = map (λ c. c.0) g.parts.of_vertex.items;
+    } };
+
+    ghost invariant = { λ g. IsGraph (record {
+      edges = edges_between g.layout.places.items (map (λ v. v.0) g.layout.origins.items);
+      vertices = g.layout.places.items;
+      marks = g.parts.marks.items;
+      origins = map (λ v. v.0) g.layout.origins.items;
+      positions = g.layout.positions.items;
+      all = map (λ s. s.0) g.all.items;
+      starts = g.layout.starts.items;
+      parts = map (λ c. c.0) g.parts.of_vertex.items;
+    }) };
+}
+
+impl PlaneGraph {
+    /// The graph of these edges: the edge at place k has the sides 2k, from low to high, and 2k + 1, from high to low.
+    ///
+    /// Takes **O(n log n)** for n edges. `OutOfMemory` comes for want of memory alone.
+    pub fn build(alloc: Global, edges: &Edges) -> Result<PlaneGraph, OutOfMemory>
+        requires few { length edges.now ≤ 2000000 }
+        requires within { All (IsEdgeWithin 2000000000) edges.now }
+        requires ends_in_order { All (λ e. IsBefore e.low e.high) edges.now }
+        requires apart { AllPairs EdgesMeetAtEndsOnly edges.now }
+        ensures edges { IfOk result (λ graph. graph.edges ≡ edges.now) }
+        ensures vertices { IfOk result (λ graph. AreVertices edges.now graph.vertices) }
+        ensures marks { IfOk result (λ graph. AreMarks edges.now graph.marks) }
+    {
+        let all = all_round(alloc, edges.as_slice())?;
+        let layout = layout_of(alloc, edges.as_slice(), &all)?;
+        let parts = parts_of(alloc, &layout, &all)?;
+        Ok(PlaneGraph { layout, all, parts })
+    }
+
+    /// How many edges there are.
+    pub fn edge_count(&self) -> u32
+        ensures count { result ≡ length self.now.edges }
+        ensures ends_in_order { All (λ e. IsBefore e.low e.high) self.now.edges }
+        ensures each_once { AllPairs (λ e f. e ≢ f) self.now.edges }
+    {
+        self.layout.origins.len() as u32 / 2
+    }
+
+    /// How many half-edges there are, two for each edge. By number they are a rotation system.
+    pub fn side_count(&self) -> u32
+        ensures count { result ≡ length (half_edges_of self.now.edges) }
+        ensures rotation { IsRotation (rotation_of self.now) }
+    {
+        self.layout.origins.len() as u32
+    }
+
+    /// How many vertices there are.
+    pub fn vertex_count(&self) -> u32
+        ensures count { result ≡ length self.now.vertices }
+        ensures vertices { AreVertices self.now.edges self.now.vertices }
+    {
+        self.layout.places.len() as u32
+    }
+
+    /// How many components there are. By number, the two ends of an edge belong to one.
+    pub fn component_count(&self) -> u32
+        ensures count { result ≡ length self.now.marks }
+        ensures marks { AreMarks self.now.edges self.now.marks }
+        ensures divides { Divides (rotation_of self.now) (part_of self.now) }
+    {
+        self.parts.marks.len() as u32
+    }
+
+    /// The same edge followed the other way.
+    pub fn twin(&self, s: Side) -> Side
+        requires { s.0 < length (half_edges_of self.now.edges) }
+        ensures half { (h : HalfEdge) → IsSide self.now.edges s.0 h → IsSide self.now.edges result.0 (twin h) }
+        ensures number { result.0 ≡ twin_number s.0 }
+        ensures within { result.0 < length (half_edges_of self.now.edges) }
+    {
+        twin_of(s)
+    }
+
+    /// The vertex that a half-edge leaves.
+    pub fn from(&self, s: Side) -> VertexId
+        requires { s.0 < length (half_edges_of self.now.edges) }
+        ensures vertex { (h : HalfEdge) → IsSide self.now.edges s.0 h → slice_get self.now.vertices result.0 ≡ Some h.from }
+        ensures number { result.0 ≡ origin_of self.now s.0 }
+        ensures within { result.0 < length self.now.vertices }
+    {
+        self.layout.origins[s.0 as usize]
+    }
+
+    /// The vertex to which a half-edge leads.
+    pub fn to(&self, s: Side) -> VertexId
+        requires { s.0 < length (half_edges_of self.now.edges) }
+        ensures vertex { (h : HalfEdge) → IsSide self.now.edges s.0 h → slice_get self.now.vertices result.0 ≡ Some h.to }
+        ensures number { result.0 ≡ end_in (rotation_of self.now) s.0 }
+        ensures within { result.0 < length self.now.vertices }
+    {
+        self.from(self.twin(s))
+    }
+
+    /// Where a vertex lies.
+    pub fn place(&self, v: VertexId) -> Point
+        requires { v.0 < length self.now.vertices }
+        ensures { slice_get self.now.vertices v.0 ≡ Some result }
+    {
+        self.layout.places[v.0 as usize]
+    }
+
+    /// How many edges end at a vertex, which is how many half-edges leave it.
+    pub fn degree(&self, v: VertexId) -> u32
+        requires { v.0 < length self.now.vertices }
+        ensures count { (p : Point) → slice_get self.now.vertices v.0 ≡ Some p → (ring : List HalfEdge) → IsRing self.now.edges p ring → result ≡ length ring }
+        ensures ring { (p : Point) → slice_get self.now.vertices v.0 ≡ Some p → (ring : List HalfEdge) × IsRing self.now.edges p ring }
+        ensures edges { (p : Point) → slice_get self.now.vertices v.0 ≡ Some p → HasDegree self.now.edges p result }
+        ensures number { result ≡ degree_of self.now v.0 }
+        ensures sides { result ≡ degree_in (rotation_of self.now) v.0 }
+    {
+        let v = v.0 as usize;
+        self.layout.starts[v + 1] - self.layout.starts[v]
+    }
+
+    /// The half-edge at place `k` of the rotation of a vertex.
+    fn side_at(&self, v: VertexId, k: u32) -> Side
+        requires vertex { v.0 < length self.now.vertices }
+        requires in_ring { (p : Point) → slice_get self.now.vertices v.0 ≡ Some p → (ring : List HalfEdge) → IsRing self.now.edges p ring → k < length ring }
+        ensures side { (p : Point) → slice_get self.now.vertices v.0 ≡ Some p → (ring : List HalfEdge) → IsRing self.now.edges p ring →
+            (h : HalfEdge) × (slice_get ring k ≡ Some h) × IsSide self.now.edges result.0 h }
+        ensures number { result.0 ≡ side_in self.now v.0 k }
+        ensures within { result.0 < length (half_edges_of self.now.edges) }
+        ensures ends_in_order { All (λ e. IsBefore e.low e.high) self.now.edges }
+    {
+        self.all[self.layout.starts[v.0 as usize] as usize + k as usize]
+    }
+
+    /// The half-edge that leaves a vertex and is met first, counterclockwise from west.
+    pub fn first_side(&self, v: VertexId) -> Side
+        requires { v.0 < length self.now.vertices }
+        ensures first { (p : Point) → slice_get self.now.vertices v.0 ≡ Some p → (ring : List HalfEdge) → IsRing self.now.edges p ring →
+            (h : HalfEdge) × (slice_get ring 0 ≡ Some h) × IsSide self.now.edges result.0 h }
+        ensures within { result.0 < length (half_edges_of self.now.edges) }
+        ensures leaves { origin_of self.now result.0 ≡ v.0 }
+    {
+        self.all[self.layout.starts[v.0 as usize] as usize]
+    }
+
+    /// The place of a half-edge in the rotation of its vertex, from 0.
+    pub fn position(&self, s: Side) -> u32
+        requires { s.0 < length (half_edges_of self.now.edges) }
+        ensures place { (h : HalfEdge) → IsSide self.now.edges s.0 h → (ring : List HalfEdge) → IsRing self.now.edges h.from ring →
+            slice_get ring result ≡ Some h }
+        ensures number { result ≡ place_of self.now s.0 }
+    {
+        self.layout.positions[s.0 as usize]
+    }
+
+    /// The next half-edge counterclockwise round the vertex that `s` leaves.
+    pub fn ccw(&self, s: Side) -> Side
+        requires { s.0 < length (half_edges_of self.now.edges) }
+        ensures next { (h : HalfEdge) → IsSide self.now.edges s.0 h → (t : HalfEdge) × IsSide self.now.edges result.0 t × IsNextCcw self.now.edges h t }
+        ensures number { result.0 ≡ ccw_of self.now s.0 }
+        ensures within { result.0 < length (half_edges_of self.now.edges) }
+    {
+        let v = self.from(s);
+        let degree = self.degree(v);
+        let next = self.position(s) + 1;
+        let turned = if next == degree { 0 } else { next };
+        self.side_at(v, turned)
+    }
+
+    /// The next half-edge clockwise.
+    pub fn cw(&self, s: Side) -> Side
+        requires { s.0 < length (half_edges_of self.now.edges) }
+        ensures next { (h : HalfEdge) → IsSide self.now.edges s.0 h → (t : HalfEdge) × IsSide self.now.edges result.0 t × IsNextCw self.now.edges h t }
+        ensures number { result.0 ≡ cw_of self.now s.0 }
+        ensures within { result.0 < length (half_edges_of self.now.edges) }
+    {
+        let v = self.from(s);
+        let degree = self.degree(v);
+        let place = self.position(s);
+        let turned = if place == 0 { degree - 1 } else { place - 1 };
+        self.side_at(v, turned)
+    }
+
+    /// The half-edge by which the face to the left of `s` goes on.
+    pub fn along(&self, s: Side) -> Side
+        requires { s.0 < length (half_edges_of self.now.edges) }
+        ensures next { (h : HalfEdge) → IsSide self.now.edges s.0 h → (t : HalfEdge) × IsSide self.now.edges result.0 t × IsAlong self.now.edges h t }
+        ensures number { result.0 ≡ along_in (rotation_of self.now) s.0 }
+        ensures within { result.0 < length (half_edges_of self.now.edges) }
+    {
+        self.cw(self.twin(s))
+    }
+
+    /// The component of a vertex.
+    pub fn component_of(&self, v: VertexId) -> Component
+        requires { v.0 < length self.now.vertices }
+        ensures component { (p : Point) → slice_get self.now.vertices v.0 ≡ Some p →
+            (mark : Point) × (slice_get self.now.marks result.0 ≡ Some mark) × SameComponent self.now.edges p mark }
+        ensures number { result.0 ≡ part_of self.now v.0 }
+        ensures within { result.0 < length self.now.marks }
+    {
+        self.parts.of_vertex[v.0 as usize]
+    }
+
+    /// The vertex at a place; `None` exactly where none is there.
+    pub fn find_vertex(&self, p: Point) -> Option<VertexId>
+        ensures found { IfSome result (λ v. slice_get self.now.vertices v.0 ≡ Some p) }
+        ensures none { IfNone result (IsVertex self.now.edges p → ⊥) }
+    {
+        let v = place_among(&self.layout.places, p)?;
+        Some(VertexId(v as u32))
+    }
+
+    /// The half-edge from one place to another; `None` exactly where no edge has these ends.
+    pub fn find_side(&self, a: Point, b: Point) -> Option<Side>
+        ensures found { IfSome result (λ s. IsSide self.now.edges s.0 (record { from = a; to = b })) }
+        ensures none { IfNone result (IsHalfEdge self.now.edges (record { from = a; to = b }) → ⊥) }
+    {
+        let v = self.find_vertex(a)?;
+        for k in 0..self.degree(v) {
+            let s = self.side_at(v, k);
+            if self.place(self.to(s)) == b {
+                return Some(s);
+            }
+        }
+        None
+    }
+}
+
+/// Whether `q` comes before `p` in the order of mark vertices.
+fn is_marked_before(q: Point, p: Point) -> bool
+    ensures { IsTrue result ↔ IsMarkedBefore q p }
+{
+    q.x < p.x || (q.x == p.x && q.y > p.y)
+}
+
+/// Where a place stands among places in the order of mark vertices; `None` where it doesn't.
+fn place_among(places: &[Point], p: Point) -> Option<usize>
+    requires { AllPairs IsMarkedBefore places.now }
+    ensures found { IfSome result (λ v. slice_get places.now v ≡ Some p) }
+    ensures none { IfNone result (Contains places.now p → ⊥) }
+{
+    let mut low = 0;
+    let mut high = places.len();
+    while low < high {
+        let middle = low + (high - low) / 2;
+        let q = places[middle];
+        if q == p {
+            return Some(middle);
+        }
+        if is_marked_before(q, p) {
+            low = middle + 1;
+        } else {
+            high = middle;
+        }
+    }
+    None
+}
