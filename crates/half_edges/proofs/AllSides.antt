@@ -4,7 +4,7 @@ use Rattle.std.specs.Prelude.{Some, slice_get, Contains, AllPairs}
 use Rattle.std.specs.Cmp.{nat_eq_equiv}
 use Rattle.std.proofs.lemmas.Bool.Decides.{Decides-eqb}
 use Rattle.std.proofs.lemmas.List.{length-map}
-use Rattle.std.proofs.lemmas.Option.{slice_get-get_or, get_or_from_slice_get}
+use Rattle.std.proofs.lemmas.Option.{get_or_from_slice_get}
 use Rattle.std.proofs.lemmas.Map.Made.{IsDistinct-from_AllPairs}
 use Rattle.std.proofs.lemmas.Map.Steps.{length-le_from_distinct_below, le-length_from_below}
 use Rattle.std.proofs.lemmas.Map.Views.{Contains-from_any, list_any-from_Contains}
@@ -23,9 +23,6 @@ use Rattle.half_edges.proofs.Rounds.{IsBeforeAllRound-irrefl}
 -- the half-edge that stands at a number
 pub side_at_is : (edges : List Edge) (s : ℕ) (h : HalfEdge) → IsSide edges s h → side_at (half_edges_of edges) s ≡ h
 side_at_is edges s h is = get_or_from_slice_get (half_edges_of edges) s h _ is
-
-pub IsSide-side_at : (edges : List Edge) (s : ℕ) → s < 2 * length edges → IsSide edges s (side_at (half_edges_of edges) s)
-IsSide-side_at edges s below = slice_get-get_or (half_edges_of edges) s _ (omega (arith, length-half_edges edges))
 
 -- the vertex of a place is that which its half-edge leaves
 pub from_at_is : (edges : List Edge) (all : List ℕ) (j s : ℕ) (h : HalfEdge) → slice_get all j ≡ Some s → IsSide edges s h → from_at edges all j ≡ h.from

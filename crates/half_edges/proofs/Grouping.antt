@@ -1,14 +1,23 @@
 -- The runs of a list: each place belongs to one, and one place more either goes on with the last run or begins one.
 use Rattle.std.proofs.Common.{arith, ◌≡◌, ◌≢◌, ◌⊎◌, inl, inr, ℕ, ◌+◌, ◌-◌, ◌<◌, ◌≤◌, List, [], ◌∷◌, ◌++◌, length, length-append, sym, ap, subst, ◌∙◌}
-use Rattle.std.specs.Prelude.{Some, slice_get, AllPairs, IfSome}
+use Rattle.std.specs.Prelude.{Some, slice_get, All, AllPairs, IfSome}
 use Rattle.std.proofs.lemmas.Bool.{cases_order, cases_eq}
 use Rattle.std.proofs.lemmas.Option.{slice_get_within}
 use Rattle.std.proofs.lemmas.List.Elements.{All-push, All-weaker}
 use Rattle.nest_base.specs.declared.places.Point.{Point}
 use Rattle.nest_base.specs.Order.{IsMarkedBefore}
-use Rattle.half_edges.specs.Runs.{IsInRun, AreRuns, AreAllRuns}
+use Rattle.half_edges.specs.Runs.{IsInRun, AreAllRuns}
 use Rattle.half_edges.proofs.Items.{read_below, one_read, AllPairs-reads, AllPairs-pushed, read_pushed, read_kept, read_of_pushed, All-read}
 use Rattle.half_edges.proofs.MarkOrder.{IsMarkedBefore-trans}
+
+-- the runs of the first n places, where `at` is the vertex of each place
+pub record AreRuns (at : ℕ → Point) (n : ℕ) (vertices : List Point) (starts : List ℕ) : Type 0 where
+  pub as_many : length starts ≡ length vertices
+  pub few : length vertices ≤ n
+  pub in_order : AllPairs IsMarkedBefore vertices
+  pub rising : AllPairs (λ i j. i < j) starts
+  pub begun : All (λ first. first < n) starts
+  pub stands : (j : ℕ) → j < n → (v : ℕ) × IsInRun starts j v × (slice_get vertices v ≡ Some (at j))
 
 -- no place belongs to an earlier run than another one to which it belongs
 not_earlier : (starts : List ℕ) (j u v : ℕ) → AllPairs (λ i k. i < k) starts → IsInRun starts j u → IsInRun starts j v → u < v → ⊥

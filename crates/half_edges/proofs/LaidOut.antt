@@ -11,13 +11,13 @@ use Rattle.nest_base.specs.Plane.{HalfEdge}
 use Rattle.half_edges.specs.Numbers.{IsSide}
 use Rattle.half_edges.specs.Rings.{AreAllRound}
 use Rattle.half_edges.specs.Layouts.{IsLayout, IsRingAt, ArePositions}
-use Rattle.half_edges.specs.Runs.{from_at, IsInRun, AreAllRuns, NumbersRing, AreNumbered}
+use Rattle.half_edges.specs.Runs.{from_at, IsInRun, AreAllRuns, NumbersRing}
 use Rattle.half_edges.proofs.Items.{read_below, read-map, read_of_map, AllPairs-reads, AllPairs-from_reads, All-from_reads, between, read_of_between, AllPairs-between}
 use Rattle.half_edges.proofs.Numbers.{length-half_edges}
 use Rattle.half_edges.proofs.Rounds.{one_ring}
 use Rattle.half_edges.proofs.AllSides.{place_of, number_below, from_at_is, each_once}
 use Rattle.half_edges.proofs.RingRuns.{stands_in_ring, AreVertices-runs, IsRingAt-run, behind_within, not_turned}
-use Rattle.half_edges.proofs.RingNumbers.{AreNumbered-more}
+use Rattle.half_edges.proofs.RingNumbers.{AreNumbered, AreNumbered-more}
 
 abbrev pub numbers_of : List Side → List ℕ
 numbers_of all = map (λ (s : Side). s.0) all

@@ -5,9 +5,14 @@ use Rattle.std.proofs.lemmas.Bool.{cases_eq, cases_order}
 use Rattle.std.proofs.lemmas.Option.{slice_get_within}
 use Rattle.nest_base.specs.declared.numbers.Side.{Side}
 use Rattle.nest_base.specs.declared.numbers.VertexId.{VertexId}
-use Rattle.half_edges.specs.Runs.{IsInRun, NumbersRing, AreNumbered}
+use Rattle.half_edges.specs.Runs.{IsInRun, NumbersRing}
 use Rattle.half_edges.proofs.Items.{one_read, AllPairs-reads, read_written, read_unwritten, between, read-between, read_of_between}
 use Rattle.half_edges.proofs.Grouping.{one_run, run_is_some, in_run_between}
+
+-- each half-edge of the first n runs has the number of its run as its origin, and its place there as its position
+pub record AreNumbered (all : List Side) (starts : List ℕ) (n : ℕ) (origins : List VertexId) (positions : List ℕ) : Type 0 where
+  pub origin_of : (j v : ℕ) (s : Side) → v < n → slice_get all j ≡ Some s → IsInRun starts j v → slice_get origins s.0 ≡ Some (record { 0 = v })
+  pub position_of : (j v : ℕ) (s : Side) → v < n → slice_get all j ≡ Some s → (run : IsInRun starts j v) → slice_get positions s.0 ≡ Some (j - run.first)
 
 pub NumbersRing-none : {X : Type 0} (value : ℕ → X) (ring : List Side) (xs : List X) → NumbersRing value ring 0 xs xs
 NumbersRing-none value ring xs = record {

@@ -1,8 +1,7 @@
 -- Runs: the half-edges of one vertex stand together in the list of all.
-use Rattle.std.specs.Prelude.{◌≡◌, ◌≢◌, ℕ, pos, ◌+◌, ◌-◌, ◌<◌, ◌≤◌, List, length, slice_get, slice_index_or, Some, All, AllPairs}
+use Rattle.std.specs.Prelude.{◌≡◌, ◌≢◌, ℕ, pos, ◌+◌, ◌<◌, ◌≤◌, List, length, slice_get, slice_index_or, Some, AllPairs}
 use Rattle.nest_base.specs.declared.places.Point.{Point}
 use Rattle.nest_base.specs.declared.numbers.Side.{Side}
-use Rattle.nest_base.specs.declared.numbers.VertexId.{VertexId}
 use Rattle.nest_base.specs.declared.places.Edge.{Edge}
 use Rattle.nest_base.specs.Plane.{HalfEdge}
 use Rattle.nest_base.specs.Order.{IsMarkedBefore}
@@ -23,15 +22,6 @@ pub record IsInRun (starts : List ℕ) (j v : ℕ) : Type 0 where
   pub not_before : first ≤ j
   pub before_next : (behind : ℕ) → slice_get starts (v + 1) ≡ Some behind → j < behind
 
--- the runs of the first n places, where `at` is the vertex of each place
-pub record AreRuns (at : ℕ → Point) (n : ℕ) (vertices : List Point) (starts : List ℕ) : Type 0 where
-  pub as_many : length starts ≡ length vertices
-  pub few : length vertices ≤ n
-  pub in_order : AllPairs IsMarkedBefore vertices
-  pub rising : AllPairs (λ i j. i < j) starts
-  pub begun : All (λ first. first < n) starts
-  pub stands : (j : ℕ) → j < n → (v : ℕ) × IsInRun starts j v × (slice_get vertices v ≡ Some (at j))
-
 -- the runs of all n places; the last start is n
 pub record AreAllRuns (at : ℕ → Point) (n : ℕ) (vertices : List Point) (starts : List ℕ) : Type 0 where
   pub one_more : length starts ≡ length vertices + 1
@@ -46,8 +36,3 @@ pub record NumbersRing {X : Type 0} (value : ℕ → X) (ring : List Side) (n : 
   pub as_long : length new ≡ length old
   pub written : (k : ℕ) (s : Side) → k < n → slice_get ring k ≡ Some s → slice_get new s.0 ≡ Some (value k)
   pub kept : (t : ℕ) → ((k : ℕ) (s : Side) → k < n → slice_get ring k ≡ Some s → s.0 ≢ t) → slice_get new t ≡ slice_get old t
-
--- each half-edge of the first n runs has the number of its run as its origin, and its place there as its position
-pub record AreNumbered (all : List Side) (starts : List ℕ) (n : ℕ) (origins : List VertexId) (positions : List ℕ) : Type 0 where
-  pub origin_of : (j v : ℕ) (s : Side) → v < n → slice_get all j ≡ Some s → IsInRun starts j v → slice_get origins s.0 ≡ Some (record { 0 = v })
-  pub position_of : (j v : ℕ) (s : Side) → v < n → slice_get all j ≡ Some s → (run : IsInRun starts j v) → slice_get positions s.0 ≡ Some (j - run.first)

@@ -1,5 +1,6 @@
 use Rattle.std.proofs.Common.{map}
-use Rattle.half_edges.specs.Runs.{from_at, AreRuns}
+use Rattle.half_edges.specs.Runs.{from_at}
+use Rattle.half_edges.proofs.Grouping.{AreRuns}
 use Rattle.half_edges.proofs.layout.runs_of.Given as goal
 
 abbrev pub invariant-loop-k : goal.invariant-loop-k
