@@ -9,7 +9,7 @@ use Rattle.dxf_groups.specs.Pairs.{Pair, has_code}
 use Rattle.dxf_entities.specs.Entities.{Entity, with_pair}
 use Rattle.dxf_entities.specs.Hand.{InHand, IsInHand}
 use Rattle.dxf_drawing.specs.Contents.{Contents, ContentsAt, IsHandOf, Adds}
-use Rattle.dxf_drawing.specs.Kept.{Keeping, Holds}
+use Rattle.dxf_drawing.specs.Kept.{Holds}
 use Rattle.dxf_drawing.specs.Standings.{closing, gives, behind, begun, standing_behind, gifts_of, standing_of, hand_of}
 use Rattle.dxf_drawing.proofs.Growth.{entity_of, hand_begin, standing_begin, gifts_begin, hand_grow, standing_grow, gifts_grow}
 use Rattle.dxf_drawing.proofs.Holding.{holds_refused, holds_other}
@@ -44,10 +44,6 @@ pub turn_stands : (c m n : Contents) (h : InHand) (e : Option Entity) → c.hand
     n.standing ≡ m.standing → m.kept.refusal ≡ None → n.standing ≡ standing_behind c.standing e
 turn_stands c m n h None some was stands same none = absurd (subst (λ o. IsHandOf o None) some was)
 turn_stands c m n h (Some e) some was stands same none = same ∙ stands e (subst (λ o. IsHandOf o (Some e)) some was) none
-
--- with no entity in hand nothing is given
-pub begun_none : (k : Keeping) (before : List Gift) → Holds k before → Holds k (before ++ [])
-begun_none k before held = subst (λ g. Holds k g) (sym (append-nil before)) held
 
 -- some gifts more, whatever the pair is
 more_gifts : (pairs : List Pair) (p : Pair) (b : Bool) → has_code 0 p ≡ b → (more : List Gift) × (gifts_of (pairs ++ p ∷ []) ≡ gifts_of pairs ++ more)

@@ -9,7 +9,7 @@ use Rattle.nest_base.specs.Lines.{unended}
 use Rattle.nest_base.proofs.Lines.{unended-lf, unended-other}
 use Rattle.dxf_groups.specs.declared.answers.GroupError.TheVariants.{Binary}
 use Rattle.dxf_groups.specs.declared.answers.Stop.TheVariants.{AtFault}
-use Rattle.dxf_groups.specs.Pairs.{binary_head, is_binary, is_too_long, stopped, without_comments}
+use Rattle.dxf_groups.specs.Pairs.{binary_head, is_binary, stopped, without_comments}
 use Rattle.dxf_groups.specs.Steps.{line_behind, pair_of}
 use Rattle.dxf_groups.specs.Taking.{reading_so_far, stop_so_far, stop_with, pairs_so_far, newest, completed, is_open}
 use Rattle.dxf_groups.proofs.Head.{common_prefix_len-on, common_prefix_len-off, common_prefix_len-whole, head_front, head_by_last}
@@ -91,7 +91,3 @@ unended_completed bytes byte h other off =
 
 pub unended_longer : (bytes : List ℕ) (byte : ℕ) → (byte == 10) ≡ false → unended (bytes ++ byte ∷ []) ≡ unended bytes ++ byte ∷ []
 unended_longer bytes byte other = unended-other bytes byte other
-
--- the unended line isn't too long
-pub unended_short : (bytes : List ℕ) → is_open (stop_so_far bytes) ≡ true → is_too_long (strip_carriage_return (unended bytes)) ≡ false
-unended_short bytes h = (open_text bytes h).short

@@ -1,6 +1,7 @@
 -- What a ray that goes west from a place, just above its height, meets.
 use Rattle.std.specs.Prelude.{◌≡◌, ℤ, ◌+ℤ◌, ◌-ℤ◌, ◌*ℤ◌, ◌≤ℤ◌, ◌<ℤ◌, ◌⊎◌}
 use Rattle.nest_base.specs.declared.places.Point.{Point}
+use Rattle.nest_base.specs.declared.places.Edge.{Edge}
 use Rattle.nest_base.specs.Plane.{HalfEdge, direction, heading}
 use Rattle.nest_base.specs.Turn.{TurnsLeft}
 
@@ -10,6 +11,11 @@ pub record IsMet (p : Point) (d : HalfEdge) : Type 0 where
   pub lower_end : d.to.y ≤ℤ p.y
   pub upper_end : p.y <ℤ d.from.y
   pub is_east : TurnsLeft (heading d) (direction d.from p)
+
+-- d is the half-edge of e that goes down
+pub record GoesDown (e : Edge) (d : HalfEdge) : Type 0 where
+  pub one_of_two : (d ≡ record { from = e.low; to = e.high }) ⊎ (d ≡ record { from = e.high; to = e.low })
+  pub down : d.to.y <ℤ d.from.y
 
 -- how far d goes down
 abbrev pub fall : HalfEdge → ℤ

@@ -12,6 +12,9 @@ pub mod laws;
 pub mod memory;
 pub mod numbers;
 pub mod places;
+pub mod sight;
+#[cfg(test)]
+mod sight_tests;
 #[cfg(test)]
 mod tests;
 pub mod text;
@@ -22,7 +25,8 @@ pub use drawing::{Drawing, Name};
 pub use edges::Edges;
 pub use memory::OutOfMemory;
 pub use numbers::{Component, Side, VertexId};
-pub use places::{CODE_RANGE, Edge, Point, RANGE, Segment, between, cross};
+pub use places::{CODE_RANGE, Edge, PLACE_RANGE, Point, RANGE, Segment, between, cross};
+pub use sight::{is_nearer, west_of};
 pub use text::Text;
 pub use trim::trimmed;
 pub use turn::turn_order;

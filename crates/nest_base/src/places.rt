@@ -1,13 +1,17 @@
 //! Places of the plate and the segments between them, in whole micrometres.
-ghost use Rattle.std.specs.Prelude.{◌≡◌, ◌<◌, ◌^◌, ◌-ℤ◌, ◌*ℤ◌, unsigned_abs, IsTrue, ◌↔◌};
+ghost use Rattle.std.specs.Prelude.{◌≡◌, ◌<◌, ◌^◌, ◌-ℤ◌, ◌*ℤ◌, unsigned_abs, IsTrue, ◌↔◌, ◌≢◌};
 ghost use Rattle.nest_base.specs.Plane.{IsBetween, IsOn, rational, direction, cross_product};
-ghost use Rattle.nest_base.specs.Range.{IsNear, IsWithin};
+ghost use Rattle.nest_base.specs.Range.{IsNear, IsWithin, IsSegmentWithin, IsEdgeWithin};
 
 /// Coordinates of a drawing lie within plus and minus this many micrometres.
 pub const RANGE: i64 = 100_000_000;
 
 /// Places in code lie within plus and minus this many micrometres: a lead-in may begin beyond the range of the drawing.
 pub const CODE_RANGE: i64 = 100_010_000;
+
+/// Coordinates of places lie within plus and minus this many micrometres where exact predicates take them: no product of theirs is
+/// too large.
+pub const PLACE_RANGE: i64 = 2_000_000_000;
 
 /// A place, or the way from one place to another, in micrometres.
 #[derive(Clone, Copy, Debug, PartialEq, Eq, PartialOrd, Ord, Hash, Drop)]
@@ -25,6 +29,34 @@ pub struct Segment {
     pub line: u32,
 }
 
+impl Point {
+    /// Whether a place lies within `PLACE_RANGE`.
+    pub fn is_in_range(&self) -> bool
+        ensures { IsTrue result ↔ IsWithin 2000000000 self.now }
+    {
+        -PLACE_RANGE <= self.x
+            && self.x <= PLACE_RANGE
+            && -PLACE_RANGE <= self.y
+            && self.y <= PLACE_RANGE
+    }
+}
+
+impl Segment {
+    /// Whether both ends lie within `PLACE_RANGE`.
+    pub fn is_in_range(&self) -> bool
+        ensures { IsTrue result ↔ IsSegmentWithin 2000000000 self.now }
+    {
+        self.a.is_in_range() && self.b.is_in_range()
+    }
+
+    /// Whether the two ends differ.
+    pub fn has_length(&self) -> bool
+        ensures { IsTrue result ↔ self.now.a ≢ self.now.b }
+    {
+        self.a != self.b
+    }
+}
+
 /// A cut with no vertex inside it: an edge of the plane graph that the torch follows. `low` is less than `high` by x, then by y.
 ///
 /// Edges are ordered by low end, then by high end.
@@ -34,24 +66,33 @@ pub struct Edge {
     pub high: Point,
 }
 
+impl Edge {
+    /// Whether both ends lie within `PLACE_RANGE`.
+    pub fn is_in_range(&self) -> bool
+        ensures { IsTrue result ↔ IsEdgeWithin 2000000000 self.now }
+    {
+        self.low.is_in_range() && self.high.is_in_range()
+    }
+}
+
 /// How far `a` lies past `b`, on one axis.
-fn difference(a: i64, b: i64) -> i128
+pub(crate) fn difference(a: i64, b: i64) -> i64
     requires a_near { IsNear 2000000000 a }
     requires b_near { IsNear 2000000000 b }
     ensures value { result ≡ a -ℤ b }
     ensures small { unsigned_abs result < 2 ^ 32 }
 {
-    i128::from(a) - i128::from(b)
+    a - b
 }
 
 /// The product of two small numbers, exact.
-fn product(a: i128, b: i128) -> i128
+pub(crate) fn product(a: i64, b: i64) -> i128
     requires a_small { unsigned_abs a < 2 ^ 33 }
     requires b_small { unsigned_abs b < 2 ^ 33 }
     ensures value { result ≡ a *ℤ b }
     ensures small { unsigned_abs result < 2 ^ 66 }
 {
-    a * b
+    i128::from(a) * i128::from(b)
 }
 
 /// The cross product of `a - o` and `b - o`, exact: positive where one turns left at `o` from `a` to `b`.

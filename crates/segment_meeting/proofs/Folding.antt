@@ -3,13 +3,11 @@ use Rattle.std.proofs.Common.{arith, ◌≡◌, ℤ, pos, ◌+ℤ◌, ◌-ℤ◌
 use Rattle.std.specs.Prelude.{neg_ℤ}
 use Rattle.std.proofs.lemmas.Int.{ints}
 use Rattle.nest_base.specs.declared.places.Point.{Point}
-use Rattle.nest_base.specs.Plane.{RationalPoint, IsOn, IsAt, cross_product, direction, numerators, scaled}
+use Rattle.nest_base.specs.Plane.{RationalPoint, IsOn, IsAt, cross_product}
 use Rattle.nest_base.proofs.Differences.{diff_of, diffs, diff_same, mul-neg}
-use Rattle.segment_meeting.specs.Sides.{side_of, LieBeyond}
+use Rattle.segment_meeting.specs.Sides.{LieBeyond}
 use Rattle.segment_meeting.specs.Folds.{Folds}
-use Rattle.segment_meeting.proofs.Factors.{same_unless, zero_factor}
-use Rattle.segment_meeting.proofs.Between.{one_way}
-use Rattle.segment_meeting.proofs.Lines.{side-on}
+use Rattle.segment_meeting.proofs.Factors.{zero_factor}
 use Rattle.segment_meeting.proofs.Along.{point_along, point_along-on}
 
 -- the way q, made up of the ways e and f
@@ -18,22 +16,6 @@ parts_x e f q = rw (diff_of e.x, diff_of e.y, diff_of f.x, diff_of f.y, diff_of 
 
 parts_y : (e f q : Point) → q.y *ℤ cross_product e f ≡ f.y *ℤ cross_product e q -ℤ e.y *ℤ cross_product f q
 parts_y e f q = rw (diff_of e.x, diff_of e.y, diff_of f.x, diff_of f.y, diff_of q.x, diff_of q.y) (simp diffs (diff_same _ _ _ _ (omega arith)))
-
--- the only point on both is the common end
-pub only_corner : (o u v : Point) (p : RationalPoint) → (Folds o u v → ⊥) → IsOn p o u → IsOn p o v → IsAt p o
-only_corner o u v p opens on_u on_v =
-    let way = direction (scaled o p.w) (numerators p) in
-    let in_x = rw (side-on o u p on_u, side-on o v p on_v) at (parts_x (direction o u) (direction o v) way) in
-    let in_y = rw (side-on o u p on_u, side-on o v p on_v) at (parts_y (direction o u) (direction o v) way) in
-    let at_x : p.x ≡ o.x *ℤ p.w = same_unless p.x (o.x *ℤ p.w) (λ apart. opens (record {
-      straight = zero_factor way.x (side_of o u v) (λ e. apart (omega (arith, ints, e))) (omega (arith, ints, in_x));
-      one_way = inl (one_way o.x u.x v.x p.w p.x p.positive apart on_u.between_x on_v.between_x);
-    })) in
-    let at_y : p.y ≡ o.y *ℤ p.w = same_unless p.y (o.y *ℤ p.w) (λ apart. opens (record {
-      straight = zero_factor way.y (side_of o u v) (λ e. apart (omega (arith, ints, e))) (omega (arith, ints, in_y));
-      one_way = inr (one_way o.y u.y v.y p.w p.y p.positive apart on_u.between_y on_v.between_y);
-    })) in
-    cc
 
 -- a point strictly inside both segments from o
 pub record IsInsideBoth (o u v : Point) (p : RationalPoint) : Type 0 where

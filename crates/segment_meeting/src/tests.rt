@@ -1,5 +1,4 @@
 ghost use Rattle.std.specs.Prelude.{IsTrue, ◌↔◌};
-ghost use Rattle.nest_base.specs.Range.{IsWithin, IsSegmentWithin};
 
 use crate::share_point;
 use anyhow::{Result, ensure};
@@ -14,18 +13,6 @@ fn segment(ends: [i64; 4]) -> Segment {
         b: Point { x: bx, y: by },
         line: 1,
     }
-}
-
-fn is_within(p: Point) -> bool
-    ensures { IsTrue result ↔ IsWithin 2000000000 p }
-{
-    -FAR <= p.x && p.x <= FAR && -FAR <= p.y && p.y <= FAR
-}
-
-fn is_segment_within(s: &Segment) -> bool
-    ensures { IsTrue result ↔ IsSegmentWithin 2000000000 s.now }
-{
-    is_within(s.a) && is_within(s.b)
 }
 
 /// What the two segments are, and the coordinates of their ends.
@@ -87,7 +74,7 @@ fn check(pairs: &[Pair], share: bool) -> Result<()> {
     for (name, first, second) in pairs {
         let s = segment(*first);
         let t = segment(*second);
-        ensure!(is_segment_within(&s) && is_segment_within(&t), "{name}");
+        ensure!(s.is_in_range() && t.is_in_range(), "{name}");
         ensure!(share_point(&s, &t) == share, "{name}");
         ensure!(share_point(&t, &s) == share, "{name}");
     }

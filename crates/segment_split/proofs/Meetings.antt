@@ -1,14 +1,13 @@
 -- Where two segments meet: their common point is one, and the same from either of them.
-use Rattle.std.proofs.Common.{◌≡◌, refl}
+use Rattle.std.proofs.Common.{◌≡◌}
 use Rattle.nest_base.specs.declared.places.Point.{Point}
 use Rattle.nest_base.specs.declared.places.Segment.{Segment}
 use Rattle.nest_base.specs.Plane.{rational, MeetIn, direction}
 use Rattle.nest_base.proofs.Directions.{cross_product-turned}
 use Rattle.plate_edges.specs.Cuts.{IsParallel, CrossesOffLattice}
 use Rattle.segment_meeting.proofs.OnePoint.{one_point, at_place, one_place}
-use Rattle.segment_split.specs.declared.meet.Meeting.{Meeting}
-use Rattle.segment_split.specs.declared.meet.Meeting.TheVariants.{Apart, Parallel, At, OffLattice}
-use Rattle.segment_split.specs.Meetings.{IsMeeting, CrossesNear}
+use Rattle.segment_split.specs.declared.meet.Meeting.TheVariants.{At}
+use Rattle.segment_split.specs.Meetings.{IsMeeting}
 
 -- the place at which two segments meet is the only place that they share
 pub meeting_at_is_only : (s t : Segment) (q r : Point) → IsMeeting (At q) s t → MeetIn s t (rational r) → q ≡ r
@@ -29,17 +28,3 @@ CrossesOffLattice-turned s t crosses = record {
   meet = (crosses.meet.1, crosses.meet.0);
   off_lattice = crosses.off_lattice;
 }
-
-pub CrossesNear-turned : (s t : Segment) (q : Point) → CrossesNear s t q → CrossesNear t s q
-unfolding CrossesOffLattice-turned
-CrossesNear-turned s t q near = record {
-  crosses = CrossesOffLattice-turned s t near.crosses;
-  rounded = near.rounded;
-}
-
--- where two segments cross off the lattice no other answer holds
-pub not_crossing : (m : Meeting) (s t : Segment) → IsMeeting m s t → CrossesOffLattice s t → (q : Point) × (m ≡ OffLattice q)
-not_crossing Apart s t meeting crosses = absurd (meeting crosses.point crosses.meet)
-not_crossing Parallel s t meeting crosses = absurd (crosses.not_parallel meeting)
-not_crossing (At q) s t meeting crosses = absurd (crossing_is_no_place s t crosses q meeting.1)
-not_crossing (OffLattice q) s t meeting crosses = (q, refl)

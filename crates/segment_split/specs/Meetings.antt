@@ -15,7 +15,7 @@ pub record CrossesNear (s t : Segment) (q : Point) : Type 0 where
 -- what each answer says of two segments
 abbrev pub IsMeeting : Meeting → Segment → Segment → Type 0
 IsMeeting Apart s t = (p : RationalPoint) → MeetIn s t p → ⊥
-IsMeeting Parallel s t = IsParallel s t
+IsMeeting Parallel s t = IsParallel s t × ((p : RationalPoint) × MeetIn s t p)
 IsMeeting (At q) s t = (IsParallel s t → ⊥) × MeetIn s t (rational q)
 IsMeeting (OffLattice q) s t = CrossesNear s t q
 

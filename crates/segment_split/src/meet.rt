@@ -13,7 +13,7 @@ use segment_meeting::share_point;
 pub enum Meeting {
     /// They share no point.
     Apart,
-    /// They go along parallel lines, which may be one line.
+    /// They share a point and go along one line.
     Parallel,
     /// They aren't parallel, and this place is their common point.
     At(Point),

@@ -1,6 +1,5 @@
 //! Where pairs of segments meet, worked out by hand.
 ghost use Rattle.std.specs.Prelude.{IsTrue, ◌↔◌};
-ghost use Rattle.nest_base.specs.Range.{IsWithin, IsSegmentWithin};
 
 use crate::meet::Meeting::{Apart, At, OffLattice, Parallel};
 use crate::meet::{Meeting, meeting_of};
@@ -97,23 +96,11 @@ fn segment(ends: [i64; 4]) -> Segment {
     }
 }
 
-fn is_within(p: Point) -> bool
-    ensures { IsTrue result ↔ IsWithin 2000000000 p }
-{
-    -FAR <= p.x && p.x <= FAR && -FAR <= p.y && p.y <= FAR
-}
-
-fn is_segment_within(s: &Segment) -> bool
-    ensures { IsTrue result ↔ IsSegmentWithin 2000000000 s.now }
-{
-    is_within(s.a) && is_within(s.b)
-}
-
 /// Where the two meet, if that is so either way round.
 fn meeting(first: [i64; 4], second: [i64; 4]) -> Result<Meeting> {
     let s = segment(first);
     let t = segment(second);
-    ensure!(is_segment_within(&s) && is_segment_within(&t));
+    ensure!(s.is_in_range() && t.is_in_range());
     let meeting = meeting_of(&s, &t);
     ensure!(meeting_of(&t, &s) == meeting);
     Ok(meeting)

@@ -1,6 +1,6 @@
 //! Small drawings and their edges, worked out by hand.
 ghost use Rattle.std.specs.Prelude.{IsTrue, ◌↔◌, ◌≢◌, All};
-ghost use Rattle.nest_base.specs.Range.{IsWithin, IsSegmentWithin};
+ghost use Rattle.nest_base.specs.Range.{IsSegmentWithin};
 
 use crate::{SplitError, split};
 use anyhow::{Result, ensure};
@@ -12,28 +12,16 @@ const FAR: i64 = 100_000_000;
 /// The coordinates of both ends of a segment or of an edge.
 type Ends = [i64; 4];
 
-fn is_within(p: Point) -> bool
-    ensures { IsTrue result ↔ IsWithin 2000000000 p }
-{
-    -2_000_000_000 <= p.x && p.x <= 2_000_000_000 && -2_000_000_000 <= p.y && p.y <= 2_000_000_000
-}
-
-fn is_segment_within(s: &Segment) -> bool
-    ensures { IsTrue result ↔ IsSegmentWithin 2000000000 s.now }
-{
-    is_within(s.a) && is_within(s.b)
-}
-
 fn are_within(segments: &[Segment]) -> bool
     ensures { IsTrue result → All (IsSegmentWithin 2000000000) segments.now }
 {
-    segments.iter().all(|s| is_segment_within(s))
+    segments.iter().all(|s| s.is_in_range())
 }
 
 fn have_length(segments: &[Segment]) -> bool
     ensures { IsTrue result → All (λ s. s.a ≢ s.b) segments.now }
 {
-    segments.iter().all(|s| s.a != s.b)
+    segments.iter().all(|s| s.has_length())
 }
 
 fn drawing_of(alloc: Global, ends: &[Ends]) -> Result<Drawing, OutOfMemory> {

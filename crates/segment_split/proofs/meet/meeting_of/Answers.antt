@@ -78,3 +78,8 @@ returns c =
     let exact_y = y.exact.0 (not-false c.rounded_along-y.result.is_exact c.if-not-y.false) in
     rw (to_z-of_z w64 c.rounded_along-x.result.down x_fits, to_z-of_z w64 c.rounded_along-y.result.down y_fits)
     (across, meets_at s t f.part f.whole (record { x = c.rounded_along-x.result.down; y = c.rounded_along-y.result.down }) c.crossing_on-f.ensures exact_x exact_y)
+
+pub returns-then-turn-eq0 : goal.returns-then-turn-eq0
+returns-then-turn-eq0 c =
+    let line : IsParallel c.args.s.now c.args.t.now = search (rules, c.turn_from-turn.ensures, c.if-turn-eq0.true) in
+    (line, c.if-not-share_point.ensures.found refl)
