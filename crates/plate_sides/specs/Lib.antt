@@ -4,3 +4,4 @@ pub mod Links
 pub mod Reach
 pub mod Enclosing
 pub mod Sixteen
+pub mod Nesting

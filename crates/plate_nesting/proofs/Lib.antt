@@ -1,0 +1,17 @@
+pub mod Factors
+pub mod Meetings
+pub mod Nearest
+pub mod Nearer
+pub mod Seen
+pub mod Components
+pub mod Sights
+pub mod Corners
+pub mod ThreeWays
+pub mod Alongs
+pub mod Marks
+pub mod Reaching
+pub mod Cuts
+pub mod Finished
+pub mod Enclosing
+pub mod Counts
+pub mod Plans

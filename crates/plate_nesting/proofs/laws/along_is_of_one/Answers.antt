@@ -1,0 +1,5 @@
+use Rattle.plate_nesting.proofs.Alongs.{along_is_of_one}
+use Rattle.plate_nesting.proofs.laws.along_is_of_one.Goals as goal
+
+pub returns : goal.returns
+returns c = along_is_of_one
