@@ -1,10 +1,12 @@
 -- The lists of a graph, as they are made, and the edges that are read back from them.
 use Rattle.std.proofs.Common.{arith, ◌≡◌, ◌≢◌, ℕ, ◌*◌, ◌≤◌, inl, inr, List, length, slice_get, sym, ap, subst, ◌∙◌}
-use Rattle.std.specs.Prelude.{AllPairs}
+use Rattle.std.specs.Prelude.{All, AllPairs}
 use Rattle.std.proofs.lemmas.Bool.{cases_order}
 use Rattle.nest_base.specs.declared.places.Point.{Point}
 use Rattle.nest_base.specs.declared.places.Edge.{Edge}
 use Rattle.nest_base.specs.Plane.{HalfEdge}
+use Rattle.nest_base.specs.Range.{IsEdgeWithin}
+use Rattle.plate_edges.specs.Points.{EdgesMeetAtEndsOnly}
 use Rattle.plate_sides.specs.Sides.{forth}
 use Rattle.half_edges.specs.Numbers.{IsSide}
 use Rattle.half_edges.specs.Rings.{AreAllRound}
@@ -40,9 +42,9 @@ module _ (edges : List Edge) (all : List ℕ) (are : AreAllRound edges all) wher
       omega (arith, number))
 
 pub graph_of_lists : (edges : List Edge) (vertices : List Point) (origins all starts positions parts : List ℕ) (marks : List Point) →
-    length edges ≤ 2000000 → AreOrdered edges → AreAllRound edges all → IsLayout edges vertices origins all starts → ArePositions edges positions → AreParts edges vertices parts marks →
+    length edges ≤ 2000000 → AreOrdered edges → All (IsEdgeWithin 2000000000) edges → AllPairs EdgesMeetAtEndsOnly edges → AreAllRound edges all → IsLayout edges vertices origins all starts → ArePositions edges positions → AreParts edges vertices parts marks →
     IsGraph (record { edges = edges_between vertices origins; vertices = vertices; marks = marks; origins = origins; positions = positions; all = all; starts = starts; parts = parts })
-graph_of_lists edges vertices origins all starts positions parts marks few ordered are layout are_positions are_parts =
+graph_of_lists edges vertices origins all starts positions parts marks few ordered within apart are layout are_positions are_parts =
     subst (λ (es : List Edge). IsGraph (record { edges = es; vertices = vertices; marks = marks; origins = origins; positions = positions; all = all; starts = starts; parts = parts }))
     (sym (edges_of_layout edges vertices origins all starts layout))
-    (record { few = few; ends_in_order = ordered; each_once = edges_each_once edges all are; layout = layout; are_positions = are_positions; are_parts = are_parts })
+    (record { few = few; ends_in_order = ordered; each_once = edges_each_once edges all are; within = within; apart = apart; layout = layout; are_positions = are_positions; are_parts = are_parts })

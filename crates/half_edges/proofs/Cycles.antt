@@ -7,7 +7,7 @@ use Rattle.half_edges.specs.Graph.{next_place, place_before}
 next_below : (n k : ℕ) → k < n → next_place n k < n
 next_below n k h = grind (arith, nat_tests)
 
-before_below : (n k : ℕ) → k < n → place_before n k < n
+pub before_below : (n k : ℕ) → k < n → place_before n k < n
 before_below n k h = grind (arith, nat_tests)
 
 before_next : (n k : ℕ) → k < n → place_before n (next_place n k) ≡ k

@@ -17,7 +17,7 @@ use Rattle.half_edges.specs.Layouts.{AreVertices}
 use Rattle.half_edges.specs.Graph.{AreParts}
 use Rattle.half_edges.specs.Floods.{none, part_at, IsFlood, AreKept}
 use Rattle.half_edges.proofs.Items.{one_read, Contains-from_read, read_from_Contains, AllPairs-reads}
-use Rattle.half_edges.proofs.MarkOrder.{IsMarkedBefore-asym}
+use Rattle.nest_base.proofs.Orders.{IsMarkedBefore-asym}
 
 -- p is a vertex whose component has no number
 abbrev IsBare : List Point → List ℕ → Point → Type 0
@@ -88,7 +88,7 @@ more_first_marks edges vertices v marks p are h at is = record {
 }
 
 -- two mark vertices of one component are one
-one_mark : (edges : List Edge) (m n : Point) → IsMark edges m → IsMark edges n → SameComponent edges m n → m ≡ n
+pub one_mark : (edges : List Edge) (m n : Point) → IsMark edges m → IsMark edges n → SameComponent edges m n → m ≡ n
 one_mark edges m n is_m is_n walk = elim (is_n.first m walk) [
   | inl same ↦ same
   | inr later ↦ elim (is_m.first n (Walk-back walk)) [

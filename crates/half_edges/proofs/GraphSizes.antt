@@ -11,7 +11,7 @@ use Rattle.plate_sides.specs.Sides.{IsVertex}
 use Rattle.plate_sides.specs.Components.{AreMarks}
 use Rattle.half_edges.specs.Numbers.{half_edges_of}
 use Rattle.half_edges.specs.Layouts.{AreVertices}
-use Rattle.half_edges.proofs.MarkOrder.{IsMarkedBefore-irrefl}
+use Rattle.nest_base.proofs.Orders.{IsMarkedBefore-irrefl}
 use Rattle.half_edges.proofs.Items.{Contains-from_read}
 use Rattle.half_edges.proofs.Numbers.{length-half_edges, side_from_half_edge}
 use Rattle.half_edges.proofs.Fewer.{fewer}

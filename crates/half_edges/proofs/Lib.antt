@@ -1,6 +1,5 @@
 pub mod Items
 pub mod Numbers
-pub mod MarkOrder
 pub mod Rounds
 pub mod FoldedCorners
 pub mod OneWay
@@ -20,7 +19,10 @@ pub mod Built
 pub mod Cycles
 pub mod Totals
 pub mod GraphCycles
+pub mod GraphMarks
 pub mod RotationLaws
+pub mod RoundOfGraph
+pub mod GraphAlongs
 pub mod RingRuns
 pub mod LaidOut
 pub mod Degrees

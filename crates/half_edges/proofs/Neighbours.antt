@@ -12,7 +12,7 @@ use Rattle.plate_sides.specs.Components.{IsJoinedTo}
 use Rattle.half_edges.specs.Numbers.{IsSide, twin_number}
 use Rattle.half_edges.specs.Layouts.{IsLayout, IsRingAt, BeginsAt, AreVertices}
 use Rattle.half_edges.specs.Floods.{end_of, Joins}
-use Rattle.half_edges.proofs.MarkOrder.{IsMarkedBefore-irrefl}
+use Rattle.nest_base.proofs.Orders.{IsMarkedBefore-irrefl}
 use Rattle.half_edges.proofs.Items.{read_below, one_read, read-take, read-drop, Contains-from_read, read_from_Contains, AllPairs-reads}
 use Rattle.half_edges.proofs.Twins.{IsSide-twin}
 

@@ -14,7 +14,7 @@ use Rattle.half_edges.specs.Rings.{AreAllRound, IsBeforeRound, IsBeforeAllRound}
 use Rattle.half_edges.specs.Layouts.{IsRingAt, AreVertices}
 use Rattle.half_edges.specs.Runs.{side_at, from_at, IsInRun, AreAllRuns}
 use Rattle.half_edges.proofs.Items.{read_below, one_read, Contains-from_read, read_from_Contains, AllPairs-reads, AllPairs-from_reads, read-map, read_of_map, between, length-between, read-between, read_of_between}
-use Rattle.half_edges.proofs.MarkOrder.{IsMarkedBefore-irrefl}
+use Rattle.nest_base.proofs.Orders.{IsMarkedBefore-irrefl}
 use Rattle.half_edges.proofs.Numbers.{one_side, side_is_half_edge, side_from_half_edge}
 use Rattle.half_edges.proofs.AllSides.{side_there, place_of, places_in_order, from_at_is, side_at_is}
 use Rattle.half_edges.proofs.Grouping.{one_run, in_run_at_start, run_is_some, in_run_between}

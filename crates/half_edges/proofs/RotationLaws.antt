@@ -1,36 +1,25 @@
 -- A graph is a rotation system, and its components go along edges.
-use Rattle.std.proofs.Common.{arith, ◌≡◌, ◌≢◌, ℕ, zero, suc, ◌<◌, inl, inr, List, Some, length, slice_get, refl, sym, ap, subst, ◌∙◌}
+use Rattle.std.proofs.Common.{arith, ◌≡◌, ◌≢◌, ℕ, zero, suc, ◌<◌, Some, length, slice_get, refl, sym, ap, subst, ◌∙◌}
 use Rattle.std.proofs.lemmas.Option.{slice_get_within, get_or_from_slice_get}
 use Rattle.nest_base.specs.declared.places.Point.{Point}
 use Rattle.nest_base.specs.declared.places.Edge.{Edge}
 use Rattle.nest_base.specs.Plane.{HalfEdge, twin}
-use Rattle.nest_base.specs.Order.{IsBefore, IsMarkedBefore}
+use Rattle.nest_base.specs.Order.{IsBefore}
 use Rattle.nest_base.specs.Walks.{against}
 use Rattle.nest_base.proofs.Walks.{Walk-then, Walk-back}
 use Rattle.std.proofs.lemmas.List.Elements.{All-contains}
-use Rattle.plate_sides.specs.Components.{SameComponent, IsMark}
 use Rattle.plate_sides.proofs.HalfEdges.{ends_differ}
 use Rattle.half_edges.specs.Numbers.{half_edges_of, twin_number}
 use Rattle.half_edges.specs.Graph.{Graph, IsGraph, rotation_of, part_of, origin_of, degree_of}
 use Rattle.half_edges.specs.Rotation.{IsRotation, Divides, to, turn, degree}
-use Rattle.half_edges.proofs.Items.{one_read, Contains-from_read}
+use Rattle.half_edges.proofs.Items.{one_read}
 use Rattle.half_edges.proofs.Numbers.{length-half_edges, side_is_half_edge, side_from_half_edge}
-use Rattle.half_edges.proofs.MarkOrder.{IsMarkedBefore-asym, IsMarkedBefore-irrefl}
 use Rattle.half_edges.proofs.Twins.{IsSide-twin, twin_twice, twin_below}
 use Rattle.half_edges.proofs.Cycles.{steps, after_below, ahead_below, after_origin, ahead_origin, after_ahead, ahead_after, all_met}
 use Rattle.half_edges.proofs.Totals.{total-origin}
 use Rattle.half_edges.proofs.GraphReads.{is_vertex}
-use Rattle.half_edges.proofs.GraphCycles.{IsRead, read, one_place, origin_is, half_edges_in_cycles}
-
--- the marks of one component are one
-one_mark : (edges : List Edge) (m n : Point) → IsMark edges m → IsMark edges n → SameComponent edges m n → m ≡ n
-one_mark edges m n is_m is_n joined = elim (is_n.first m joined) [
-  | inl same ↦ same
-  | inr before ↦ elim (is_m.first n (Walk-back joined)) [
-    | inl same ↦ sym same
-    | inr also ↦ absurd (IsMarkedBefore-asym n m before also)
-  ]
-]
+use Rattle.half_edges.proofs.GraphMarks.{one_component}
+use Rattle.half_edges.proofs.GraphCycles.{IsRead, read, origin_is, half_edges_in_cycles}
 
 module _ {graph : Graph} (known : IsGraph graph) where
   twin_within : (s : ℕ) → s < length (half_edges_of graph.edges) → twin_number s < length (half_edges_of graph.edges)
@@ -91,9 +80,6 @@ module _ {graph : Graph} (known : IsGraph graph) where
     whole = met;
   }
 
-  mark_at : (c : ℕ) (m : Point) → slice_get graph.marks c ≡ Some m → IsMark graph.edges m
-  mark_at c m at = (known.are_parts.are_marks.are_all m).0 (Contains-from_read graph.marks c m at)
-
   pub parts_divide : Divides (rotation_of graph) (part_of graph)
   parts_divide s below =
       let at = read known s below in
@@ -103,7 +89,5 @@ module _ {graph : Graph} (known : IsGraph graph) where
       let part_u = known.are_parts.leads u at.half.to there in
       let part_v = known.are_parts.leads v at.half.from at.from in
       let joined = Walk-then (Walk-back part_u.4) (against (side_is_half_edge graph.edges s at.half at.is_side) part_v.4) in
-      let same = one_mark graph.edges part_u.1 part_v.1 (mark_at part_u.0 part_u.1 part_u.3) (mark_at part_v.0 part_v.1 part_v.3) joined in
-      let number = one_place IsMarkedBefore graph.marks part_u.0 part_v.0 part_u.1 (λ p before. IsMarkedBefore-irrefl p p before refl) known.are_parts.are_marks.in_order
-      part_u.3 (part_v.3 ∙ ap Some (sym same)) in
+      let number = one_component known part_u.0 part_v.0 part_u.1 part_v.1 part_u.3 part_v.3 joined in
       get_or_from_slice_get graph.parts u part_u.0 0 part_u.2 ∙ number ∙ sym (get_or_from_slice_get graph.parts v part_v.0 0 part_v.2)

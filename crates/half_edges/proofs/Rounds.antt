@@ -10,7 +10,7 @@ use Rattle.nest_base.proofs.Differences.{mul-neg, neg-mul}
 use Rattle.nest_base.proofs.Signs.{mul_pos, mul_nonneg}
 use Rattle.plate_edges.proofs.Lists.{same_enumeration}
 use Rattle.plate_sides.specs.Sides.{Leaves}
-use Rattle.half_edges.proofs.MarkOrder.{IsMarkedBefore-asym}
+use Rattle.nest_base.proofs.Orders.{IsMarkedBefore-asym}
 use Rattle.half_edges.specs.Rings.{IsRing, IsBeforeRound, IsBeforeAllRound}
 
 -- two northern directions on one line are one direction

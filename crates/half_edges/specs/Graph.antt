@@ -3,10 +3,14 @@ use Rattle.std.specs.Prelude.{◌≡◌, ℕ, ◌+◌, ◌-◌, ◌==◌, if◌t
 use Rattle.nest_base.specs.declared.places.Point.{Point}
 use Rattle.nest_base.specs.declared.places.Edge.{Edge}
 use Rattle.nest_base.specs.Order.{IsBefore}
-use Rattle.plate_sides.specs.Components.{SameComponent, AreMarks}
-use Rattle.half_edges.specs.Numbers.{half_edges_of, twin_number}
+use Rattle.nest_base.specs.Range.{IsEdgeWithin}
+use Rattle.plate_edges.specs.Points.{EdgesMeetAtEndsOnly}
+use Rattle.nest_base.specs.Plane.{HalfEdge}
+use Rattle.plate_sides.specs.Components.{SameComponent, AreMarks, IsIn}
+use Rattle.plate_sides.specs.Links.{IsAlong}
+use Rattle.half_edges.specs.Numbers.{half_edges_of, twin_number, IsSide}
 use Rattle.half_edges.specs.Layouts.{IsLayout, ArePositions}
-use Rattle.half_edges.specs.Rotation.{Rotation}
+use Rattle.half_edges.specs.Rotation.{Rotation, along}
 
 pub record Graph : Type 0 where
   pub edges : List Edge
@@ -45,6 +49,8 @@ pub record IsGraph (graph : Graph) : Type 0 where
   pub few : length graph.edges ≤ 2000000
   pub ends_in_order : All (λ (e : Edge). IsBefore e.low e.high) graph.edges
   pub each_once : AllPairs (λ (e f : Edge). e ≢ f) graph.edges
+  pub within : All (IsEdgeWithin 2000000000) graph.edges
+  pub apart : AllPairs EdgesMeetAtEndsOnly graph.edges
   pub layout : IsLayout graph.edges graph.vertices graph.origins graph.all graph.starts
   pub are_positions : ArePositions graph.edges graph.positions
   pub are_parts : AreParts graph.edges graph.vertices graph.parts graph.marks
@@ -83,3 +89,14 @@ cw_of graph s = side_in graph (origin_of graph s) (place_before (degree_of graph
 -- the rotations of a graph, by numbers alone
 abbrev pub rotation_of : Graph → Rotation
 rotation_of graph = record { sides = length (half_edges_of graph.edges); twin = twin_number; ccw = ccw_of graph; cw = cw_of graph; from = origin_of graph }
+
+-- by number half-edges go along as they do on the plate
+abbrev pub GoesAlong : Graph → Type 0
+GoesAlong graph =
+    (s : ℕ) (h : HalfEdge) → IsSide graph.edges s h → (t : HalfEdge) × IsSide graph.edges (along (rotation_of graph) s) t × IsAlong graph.edges h t
+
+-- each half-edge lies in the component that has the number of the vertex which it leaves
+abbrev pub LieInParts : Graph → Type 0
+LieInParts graph =
+    (s : ℕ) (h : HalfEdge) → IsSide graph.edges s h →
+    (mark : Point) × (slice_get graph.marks (part_of graph (origin_of graph s)) ≡ Some mark) × IsIn graph.edges mark h

@@ -3,6 +3,8 @@ pub mod Rings
 pub mod Layouts
 pub mod Runs
 pub mod Rotation
+pub mod Marks
 pub mod Spokes
 pub mod Graph
 pub mod Floods
+pub mod Views

@@ -1,5 +1,5 @@
 //! The plane graph, and what is read of it.
-ghost use Rattle.std.specs.Prelude.{◌≡◌, ◌≢◌, ◌≤◌, ◌<◌, length, slice_get, Some, All, AllPairs, Contains, List, IfOk, IfSome, IfNone, IsTrue, ◌↔◌};
+ghost use Rattle.std.specs.Prelude.{◌≡◌, ◌≢◌, ◌≤◌, ◌<◌, length, slice_get, Some, All, AllPairs, Contains, List, IfOk, IfSome, IfNone};
 ghost use Rattle.nest_base.specs.Order.{IsBefore, IsMarkedBefore};
 ghost use Rattle.nest_base.specs.Range.{IsEdgeWithin};
 ghost use Rattle.nest_base.specs.Plane.{HalfEdge, twin};
@@ -7,14 +7,16 @@ ghost use Rattle.plate_edges.specs.Points.{EdgesMeetAtEndsOnly};
 ghost use Rattle.plate_sides.specs.Sides.{IsVertex, IsHalfEdge, IsNextCcw, IsNextCw};
 ghost use Rattle.plate_sides.specs.Components.{SameComponent, AreMarks};
 ghost use Rattle.plate_sides.specs.Links.{IsAlong};
+ghost use Rattle.plate_sides.specs.Nesting.{IsRound};
 ghost use Rattle.plate_covers.specs.Odd.{HasDegree};
 ghost use Rattle.half_edges.specs.Numbers.{half_edges_of, IsSide, twin_number};
 ghost use Rattle.half_edges.specs.Rings.{IsRing};
 ghost use Rattle.half_edges.specs.Layouts.{AreVertices};
 ghost use Rattle.half_edges.specs.Rotation.{IsRotation, Divides, to as end_in, along as along_in, degree as degree_in};
-ghost use Rattle.half_edges.specs.Graph.{rotation_of, origin_of, place_of, part_of, degree_of, side_in, ccw_of, cw_of};
+ghost use Rattle.half_edges.specs.Graph.{GoesAlong, LieInParts, rotation_of, origin_of, place_of, part_of, degree_of, side_in, ccw_of, cw_of};
 
 use crate::layout::{Layout, layout_of};
+use crate::mark_order::MarkOrder;
 use crate::parts::{Parts, parts_of};
 use crate::ring::all_round;
 use crate::sides::twin_of;
@@ -34,32 +36,14 @@ pub struct PlaneGraph {
 }
 
 impl Model for PlaneGraph {
-    ghost use Rattle.std.specs.Prelude.{map};
-    ghost use Rattle.half_edges.specs.Graph.{Graph, edges_between, IsGraph};
+    ghost use Rattle.half_edges.specs.Graph.{Graph, IsGraph};
+    ghost use Rattle.half_edges.specs.Views.{graph_view};
 
     ghost Value = { Graph };
 
-    ghost view = { λ g. record {
-      edges = edges_between g.layout.places.items (map (λ v. v.0) g.layout.origins.items);
-      vertices = g.layout.places.items;
-      marks = g.parts.marks.items;
-      origins = map (λ v. v.0) g.layout.origins.items;
-      positions = g.layout.positions.items;
-      all = map (λ s. s.0) g.all.items;
-      starts = g.layout.starts.items;
-      parts = map (λ c. c.0) g.parts.of_vertex.items;
-    } };
+    ghost view = { graph_view };
 
-    ghost invariant = { λ g. IsGraph (record {
-      edges = edges_between g.layout.places.items (map (λ v. v.0) g.layout.origins.items);
-      vertices = g.layout.places.items;
-      marks = g.parts.marks.items;
-      origins = map (λ v. v.0) g.layout.origins.items;
-      positions = g.layout.positions.items;
-      all = map (λ s. s.0) g.all.items;
-      starts = g.layout.starts.items;
-      parts = map (λ c. c.0) g.parts.of_vertex.items;
-    }) };
+    ghost invariant = { λ g. IsGraph (graph_view g) };
 }
 
 impl PlaneGraph {
@@ -81,11 +65,16 @@ impl PlaneGraph {
         Ok(PlaneGraph { layout, all, parts })
     }
 
-    /// How many edges there are.
+    /// How many edges there are. By number their half-edges are a rotation system.
     pub fn edge_count(&self) -> u32
         ensures count { result ≡ length self.now.edges }
+        ensures few { length self.now.edges ≤ 2000000 }
         ensures ends_in_order { All (λ e. IsBefore e.low e.high) self.now.edges }
         ensures each_once { AllPairs (λ e f. e ≢ f) self.now.edges }
+        ensures within { All (IsEdgeWithin 2000000000) self.now.edges }
+        ensures apart { AllPairs EdgesMeetAtEndsOnly self.now.edges }
+        ensures rotation { IsRotation (rotation_of self.now) }
+        ensures along { GoesAlong self.now }
     {
         self.layout.origins.len() as u32 / 2
     }
@@ -94,6 +83,7 @@ impl PlaneGraph {
     pub fn side_count(&self) -> u32
         ensures count { result ≡ length (half_edges_of self.now.edges) }
         ensures rotation { IsRotation (rotation_of self.now) }
+        ensures along { GoesAlong self.now }
     {
         self.layout.origins.len() as u32
     }
@@ -102,6 +92,7 @@ impl PlaneGraph {
     pub fn vertex_count(&self) -> u32
         ensures count { result ≡ length self.now.vertices }
         ensures vertices { AreVertices self.now.edges self.now.vertices }
+        ensures round { IsRound self.now.edges }
     {
         self.layout.places.len() as u32
     }
@@ -109,8 +100,10 @@ impl PlaneGraph {
     /// How many components there are. By number, the two ends of an edge belong to one.
     pub fn component_count(&self) -> u32
         ensures count { result ≡ length self.now.marks }
+        ensures few { length self.now.marks ≤ 4000000 }
         ensures marks { AreMarks self.now.edges self.now.marks }
         ensures divides { Divides (rotation_of self.now) (part_of self.now) }
+        ensures parts { LieInParts self.now }
     {
         self.parts.marks.len() as u32
     }
@@ -184,6 +177,8 @@ impl PlaneGraph {
         requires { v.0 < length self.now.vertices }
         ensures first { (p : Point) → slice_get self.now.vertices v.0 ≡ Some p → (ring : List HalfEdge) → IsRing self.now.edges p ring →
             (h : HalfEdge) × (slice_get ring 0 ≡ Some h) × IsSide self.now.edges result.0 h }
+        ensures ring { (p : Point) → slice_get self.now.vertices v.0 ≡ Some p → (ring : List HalfEdge) × IsRing self.now.edges p ring }
+        ensures ends_in_order { All (λ e. IsBefore e.low e.high) self.now.edges }
         ensures within { result.0 < length (half_edges_of self.now.edges) }
         ensures leaves { origin_of self.now result.0 ≡ v.0 }
     {
@@ -249,6 +244,17 @@ impl PlaneGraph {
         self.parts.of_vertex[v.0 as usize]
     }
 
+    /// The mark vertex of a component: the one that comes first of all its vertices.
+    pub fn mark_vertex(&self, c: Component) -> VertexId
+        requires { c.0 < length self.now.marks }
+        ensures mark { slice_get self.now.vertices result.0 ≡ slice_get self.now.marks c.0 }
+        ensures component { part_of self.now result.0 ≡ c.0 }
+        ensures within { result.0 < length self.now.vertices }
+    {
+        let v = place_among(&self.layout.places, self.parts.marks[c.0 as usize]).unwrap();
+        VertexId(v as u32)
+    }
+
     /// The vertex at a place; `None` exactly where none is there.
     pub fn find_vertex(&self, p: Point) -> Option<VertexId>
         ensures found { IfSome result (λ v. slice_get self.now.vertices v.0 ≡ Some p) }
@@ -274,32 +280,13 @@ impl PlaneGraph {
     }
 }
 
-/// Whether `q` comes before `p` in the order of mark vertices.
-fn is_marked_before(q: Point, p: Point) -> bool
-    ensures { IsTrue result ↔ IsMarkedBefore q p }
-{
-    q.x < p.x || (q.x == p.x && q.y > p.y)
-}
-
 /// Where a place stands among places in the order of mark vertices; `None` where it doesn't.
 fn place_among(places: &[Point], p: Point) -> Option<usize>
     requires { AllPairs IsMarkedBefore places.now }
     ensures found { IfSome result (λ v. slice_get places.now v ≡ Some p) }
     ensures none { IfNone result (Contains places.now p → ⊥) }
 {
-    let mut low = 0;
-    let mut high = places.len();
-    while low < high {
-        let middle = low + (high - low) / 2;
-        let q = places[middle];
-        if q == p {
-            return Some(middle);
-        }
-        if is_marked_before(q, p) {
-            low = middle + 1;
-        } else {
-            high = middle;
-        }
-    }
-    None
+    places
+        .binary_search_by_key(&MarkOrder::of(p), |q| MarkOrder::of(*q))
+        .ok()
 }

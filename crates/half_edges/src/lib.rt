@@ -14,6 +14,7 @@
 mod component_tests;
 pub mod graph;
 mod layout;
+mod mark_order;
 mod parts;
 mod ring;
 #[cfg(test)]

@@ -11,16 +11,10 @@ ghost use Rattle.plate_edges.specs.Points.{EdgesMeetAtEndsOnly};
 ghost use Rattle.half_edges.specs.Rings.{AreAllRound};
 ghost use Rattle.half_edges.specs.Spokes.{spoke_between, AreSpokes};
 
+use crate::mark_order::MarkOrder;
 use nest_base::{Edge, OutOfMemory, Point, Side, turn_order};
 use std::alloc::Global;
-use std::cmp::{Ordering, Reverse};
-
-/// A place in the order of mark vertices: the least x first, then the greatest y.
-#[derive(Clone, Copy, PartialEq, Eq, PartialOrd, Ord, Drop)]
-struct MarkOrder {
-    x: i64,
-    y: Reverse<i64>,
-}
+use std::cmp::Ordering;
 
 /// A direction, compared by angle, counterclockwise from west.
 #[derive(Clone, Copy, Drop)]
@@ -79,10 +73,7 @@ fn spoke_of(from: Point, to: Point, side: Side) -> Spoke
     ensures { result ≡ spoke_between from to side.0 }
 {
     Spoke {
-        at: MarkOrder {
-            x: from.x,
-            y: Reverse(from.y),
-        },
+        at: MarkOrder::of(from),
         toward: Direction(Point {
             x: to.x - from.x,
             y: to.y - from.y,

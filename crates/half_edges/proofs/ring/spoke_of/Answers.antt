@@ -4,14 +4,12 @@ use Rattle.half_edges.proofs.ring.spoke_of.Goals as goal
 
 pub returns : goal.returns
 returns c =
-    let from_x : to_z w64 (of_z w64 c.args.from.x) ≡ c.args.from.x = omega (arith, ints, c.requires.from_within.x) in
-    let from_y : to_z w64 (of_z w64 c.args.from.y) ≡ c.args.from.y = omega (arith, ints, c.requires.from_within.y) in
     let to_x : to_z w64 (of_z w64 (to_z w64 (of_z w64 c.args.to.x) -ℤ to_z w64 (of_z w64 c.args.from.x))) ≡ c.args.to.x -ℤ c.args.from.x =
     omega (arith, ints, c.requires.from_within.x, c.requires.to_within.x) in
     let to_y : to_z w64 (of_z w64 (to_z w64 (of_z w64 c.args.to.y) -ℤ to_z w64 (of_z w64 c.args.from.y))) ≡ c.args.to.y -ℤ c.args.from.y =
     omega (arith, ints, c.requires.from_within.y, c.requires.to_within.y) in
     λ i. record {
-      at = record { x = from_x i; y = record { 0 = from_y i } };
+      at = c.of.ensures i;
       toward = record { 0 = record { x = to_x i; y = to_y i } };
       side = c.args.side;
     }

@@ -17,7 +17,7 @@ invariant_of-result c =
     let layout = rw (c.as_slice-2.ensures, c.deref.ensures.value) at c.in_ok-layout.ensures.layout in
     let positions = rw c.as_slice-2.ensures at c.in_ok-layout.ensures.positions in
     let parts = rw c.deref-2.ensures.value at c.in_ok-parts.ensures in
-    graph_of_lists c.args.edges.now _ _ _ _ _ _ _ c.requires.few c.requires.ends_in_order all layout positions (parts c.args.edges.now layout)
+    graph_of_lists c.args.edges.now _ _ _ _ _ _ _ c.requires.few c.requires.ends_in_order c.requires.within c.requires.apart all layout positions (parts c.args.edges.now layout)
 
 pub returns-clause-edges : goal.returns-clause-edges
 returns-clause-edges c = edges_of_layout c.args.edges.now _ _ _ _ (rw (c.as_slice-2.ensures, c.deref.ensures.value) at c.in_ok-layout.ensures.layout)

@@ -3,7 +3,7 @@ use Rattle.std.proofs.lemmas.List.{length-map}
 use Rattle.std.proofs.lemmas.Option.{slice_get_read}
 use Rattle.nest_base.specs.declared.numbers.Side.{Side}
 use Rattle.half_edges.proofs.Items.{read-map}
-use Rattle.half_edges.proofs.GraphReads.{vertex_at_number, first_place_within, first_in_ring}
+use Rattle.half_edges.proofs.GraphReads.{vertex_at_number, first_place_within, first_in_ring, ring_of}
 use Rattle.half_edges.proofs.GraphCycles.{first_leaves}
 use Rattle.half_edges.proofs.graph.PlaneGraph.first_side.Goals as goal
 
@@ -22,6 +22,9 @@ returns-clause-first c =
     let within = first_place_within c.self.invariant c.args.v.0 first p at c.index.ensures in
     let read = slice_get_read all (length all) first c.index-2.result.now refl (omega (arith, within, length-map all (λ s. s.0))) c.index-2.ensures in
     first_in_ring c.self.invariant c.args.v.0 first c.index-2.result.now.0 p at c.index.ensures (read-map (λ (s : Side). s.0) all first c.index-2.result.now read))
+
+pub returns-clause-ring : goal.returns-clause-ring
+returns-clause-ring c = rw (← c.self.view_is) (λ p at. ring_of c.self.invariant c.args.v.0 p at)
 
 pub returns-clause-within : goal.returns-clause-within
 returns-clause-within c =

@@ -1,6 +1,7 @@
 use Rattle.std.proofs.Common.{arith}
 use Rattle.std.proofs.lemmas.List.{length-map}
 use Rattle.half_edges.proofs.RotationLaws.{graph_is_rotation}
+use Rattle.half_edges.proofs.GraphAlongs.{goes_along}
 use Rattle.half_edges.proofs.GraphReads.{few_sides, length-origins}
 use Rattle.half_edges.proofs.graph.PlaneGraph.side_count.Goals as goal
 
@@ -10,3 +11,6 @@ overflow_cast-result c =
 
 pub returns-clause-rotation : goal.returns-clause-rotation
 returns-clause-rotation c = rw (← c.self.view_is) (graph_is_rotation c.self.invariant)
+
+pub returns-clause-along : goal.returns-clause-along
+returns-clause-along c = rw (← c.self.view_is) (goes_along _ c.self.invariant)
