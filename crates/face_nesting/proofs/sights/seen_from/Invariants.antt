@@ -1,0 +1,6 @@
+use Rattle.std.proofs.Common.{take}
+use Rattle.face_nesting.proofs.SeenSoFar.{IsNearestOf}
+use Rattle.face_nesting.proofs.sights.seen_from.Given as goal
+
+abbrev pub invariant-loop-k : goal.invariant-loop-k
+invariant-loop-k l = IsNearestOf l.edges (take l.k l.edges) l.p l.nearest

@@ -1,0 +1,117 @@
+//! The faces of a graph, and what is read of them.
+ghost use Rattle.std.specs.Prelude.{◌≡◌, ◌≤◌, ◌<◌, length, slice_get, slice_index, Some, None, IfOk, option_map, map};
+ghost use Rattle.nest_base.specs.declared.numbers.Component.{Component};
+ghost use Rattle.plate_sides.specs.Nesting.{HasMarkSides, SeesOne, AreParents};
+ghost use Rattle.half_edges.specs.Numbers.{half_edges_of};
+ghost use Rattle.face_nesting.specs.Numbering.{numbers_of, outer_face};
+ghost use Rattle.face_nesting.specs.Nesting.{AreFaces, IsFaceCount, AreOuterRings, ring_at};
+
+use crate::marks::mark_sides;
+pub use crate::numbering::FaceId;
+use crate::numbering::{OUTER, faces_of, outer_faces, parents_of};
+use crate::rings::rings_of;
+use crate::sights::{edges_of, sights_of};
+use half_edges::PlaneGraph;
+use nest_base::{Component, OutOfMemory, Side};
+use std::alloc::Global;
+use std::marker::Model;
+
+/// The faces of a plane graph, by number, and how its components lie in them. Contracts see it as the lists of a `Nesting`.
+///
+/// It belongs to the graph that it was built on.
+#[derive(Drop)]
+pub struct Faces {
+    face_list: Vec<FaceId>,
+    number_of_faces: u32,
+    parent_list: Vec<Option<Component>>,
+    sides: Vec<Side>,
+    starts: Vec<u32>,
+}
+
+impl Model for Faces {
+    ghost use Rattle.face_nesting.specs.Nesting.{Nesting, IsNesting};
+    ghost use Rattle.face_nesting.specs.Views.{nesting_view};
+
+    ghost Value = { Nesting };
+
+    ghost view = { nesting_view };
+
+    ghost invariant = { λ f. IsNesting (nesting_view f) };
+}
+
+impl Faces {
+    /// The faces of a graph.
+    ///
+    /// Takes **O(n + kn)** for n edges and k components. `OutOfMemory` comes for want of memory alone.
+    pub fn build(alloc: Global, graph: &PlaneGraph) -> Result<Faces, OutOfMemory>
+        ensures as_many { IfOk result (λ f. length f.faces ≡ length (half_edges_of graph.now.edges)) }
+        ensures faces { IfOk result (λ f. AreFaces graph.now.edges f.faces) }
+        ensures count { IfOk result (λ f. IsFaceCount f.faces f.count) }
+        ensures parents { IfOk result (λ f. AreParents graph.now.edges graph.now.marks f.parents) }
+        ensures outer_rings { IfOk result (λ f. AreOuterRings graph.now f) }
+        ensures mark_sides { IfOk result (λ f. HasMarkSides graph.now.edges) }
+        ensures sees_one { IfOk result (λ f. SeesOne graph.now.edges) }
+    {
+        let edges = edges_of(alloc, graph)?;
+        let marks = mark_sides(alloc, graph)?;
+        let sights = sights_of(alloc, graph, &edges)?;
+        let rings = rings_of(alloc, graph, &marks)?;
+        let outer = outer_faces(alloc, &rings.ring_of, &sights)?;
+        let inner = (rings.starts.len() - 1 - marks.len()) as u32;
+        Ok(Faces {
+            face_list: faces_of(alloc, &rings.ring_of, &outer)?,
+            number_of_faces: inner + 1,
+            parent_list: parents_of(alloc, graph, &sights)?,
+            sides: rings.sides,
+            starts: rings.starts,
+        })
+    }
+
+    /// The face to the left of a half-edge.
+    pub fn face_of(&self, s: Side) -> FaceId
+        requires { s.0 < length self.now.faces }
+        ensures { slice_get self.now.faces s.0 ≡ Some result.0 }
+    {
+        self.face_list[s.0 as usize]
+    }
+
+    /// The face that holds the outside.
+    pub fn outer(&self) -> FaceId
+        ensures { result.0 ≡ outer_face }
+    {
+        OUTER
+    }
+
+    /// How many faces there are, the outer one among them.
+    pub fn face_count(&self) -> u32
+        ensures { result ≡ self.now.count }
+    {
+        self.number_of_faces
+    }
+
+    /// The mark side of a component: of the half-edges that leave its mark vertex, the one that is met last, counterclockwise from west.
+    pub fn mark_side(&self, c: Component) -> Side
+        requires { c.0 < length self.now.parents }
+        ensures { slice_get (ring_at self.now c.0) 0 ≡ Some result.0 }
+    {
+        self.sides[self.starts[c.0 as usize] as usize]
+    }
+
+    /// The component that a component lies in; `None` exactly where it lies in none.
+    pub fn parent(&self, c: Component) -> Option<Component>
+        requires { c.0 < length self.now.parents }
+        ensures { slice_get self.now.parents c.0 ≡ Some (option_map (λ (p : Component). p.0) result) }
+    {
+        self.parent_list[c.0 as usize]
+    }
+
+    /// The outer sides of a component, each once, from the mark side on as each goes along to the next.
+    pub fn outer_sides(&self, c: Component) -> &[Side]
+        requires { c.0 < length self.now.parents }
+        ensures { numbers_of result.now ≡ ring_at self.now c.0 }
+    {
+        let first = self.starts[c.0 as usize] as usize;
+        let behind = self.starts[c.0 as usize + 1] as usize;
+        &self.sides[first..behind]
+    }
+}

@@ -1,0 +1,99 @@
+//! What the mark vertices of components see.
+ghost use Rattle.std.specs.Prelude.{◌≡◌, ◌≢◌, ◌≤◌, List, length, slice_get, Some, All, AllPairs, IfOk, IfSome, IfNone};
+ghost use Rattle.nest_base.specs.Plane.{HalfEdge};
+ghost use Rattle.nest_base.specs.Order.{IsBefore};
+ghost use Rattle.nest_base.specs.Sight.{GoesDown};
+ghost use Rattle.nest_base.specs.Range.{IsWithin, IsEdgeWithin};
+ghost use Rattle.plate_edges.specs.Points.{EdgesMeetAtEndsOnly};
+ghost use Rattle.plate_sides.specs.Links.{IsSeen, SeesNone};
+ghost use Rattle.half_edges.specs.Numbers.{IsSide};
+ghost use Rattle.half_edges.specs.Rotation.{IsRotation};
+ghost use Rattle.half_edges.specs.Graph.{GoesAlong, rotation_of};
+ghost use Rattle.face_nesting.specs.Numbering.{sight_numbers_of};
+ghost use Rattle.face_nesting.specs.Sights.{AreSights};
+
+use half_edges::PlaneGraph;
+use nest_base::{Component, Edge, OutOfMemory, Point, Side, is_nearer, west_of};
+use std::alloc::Global;
+
+/// The edges of a graph, in its order.
+pub fn edges_of(alloc: Global, graph: &PlaneGraph) -> Result<Vec<Edge>, OutOfMemory>
+    ensures edges { IfOk result (λ edges. edges.items ≡ graph.now.edges) }
+    ensures few { IfOk result (λ _. length graph.now.edges ≤ 2000000) }
+    ensures ends_in_order { IfOk result (λ _. All (λ e. IsBefore e.low e.high) graph.now.edges) }
+    ensures within { IfOk result (λ _. All (IsEdgeWithin 2000000000) graph.now.edges) }
+    ensures each_once { IfOk result (λ _. AllPairs (λ e f. e ≢ f) graph.now.edges) }
+    ensures apart { IfOk result (λ _. AllPairs EdgesMeetAtEndsOnly graph.now.edges) }
+    ensures rotation { IfOk result (λ _. IsRotation (rotation_of graph.now)) }
+    ensures along { IfOk result (λ _. GoesAlong graph.now) }
+{
+    let mut edges = Vec::new(alloc);
+    for k in 0..graph.edge_count() {
+        let forth = Side(2 * k);
+        edges.push(Edge {
+            low: graph.place(graph.from(forth)),
+            high: graph.place(graph.to(forth)),
+        })?;
+    }
+    Ok(edges)
+}
+
+/// The half-edge of the edge at place `k` that goes down; the one from its low end where it's level.
+fn downward(k: usize, e: &Edge) -> Side
+    requires { k ≤ 2000000 }
+    ensures { (edges : List Edge) (d : HalfEdge) → slice_get edges k ≡ Some e.now → GoesDown e.now d → IsSide edges result.0 d }
+{
+    let from_low = 2 * k as u32;
+    if e.low.y < e.high.y {
+        Side(from_low + 1)
+    } else {
+        Side(from_low)
+    }
+}
+
+/// The half-edge that is seen from `p`: the one that goes down of the nearest of all edges that the ray west meets; `None` exactly
+/// where it meets none.
+///
+/// Takes **O(n)** for n edges.
+fn seen_from(edges: &[Edge], p: Point) -> Option<Side>
+    requires few { length edges.now ≤ 2000000 }
+    requires edges_within { All (IsEdgeWithin 2000000000) edges.now }
+    requires p_within { IsWithin 2000000000 p }
+    ensures found { IfSome result (λ s. (d : HalfEdge) × IsSide edges.now s.0 d × IsSeen edges.now p d) }
+    ensures none { IfNone result (SeesNone edges.now p) }
+{
+    let mut nearest = None;
+    for (k, e) in edges.iter().enumerate() {
+        if !west_of(e, p) {
+            continue;
+        }
+        let is_first = match nearest {
+            None => true,
+            Some(n) => is_nearer(p, e, &edges[n]),
+        };
+        if is_first {
+            nearest = Some(k);
+        }
+    }
+    let k = nearest?;
+    Some(downward(k, &edges[k]))
+}
+
+/// What each component sees from its mark vertex.
+pub fn sights_of(
+    alloc: Global,
+    graph: &PlaneGraph,
+    edges: &[Edge],
+) -> Result<Vec<Option<Side>>, OutOfMemory>
+    requires edges { edges.now ≡ graph.now.edges }
+    requires few { length edges.now ≤ 2000000 }
+    requires within { All (IsEdgeWithin 2000000000) edges.now }
+    ensures { IfOk result (λ sights. AreSights graph.now.edges graph.now.marks (sight_numbers_of sights.items)) }
+{
+    let mut sights = Vec::new(alloc);
+    for c in 0..graph.component_count() {
+        let mark = graph.place(graph.mark_vertex(Component(c)));
+        sights.push(seen_from(edges, mark))?;
+    }
+    Ok(sights)
+}
