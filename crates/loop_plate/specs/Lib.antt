@@ -1,5 +1,4 @@
 pub mod Loops
+pub mod Plans
 pub mod LoopReport
-pub mod LoopPlan
 pub mod Square
-pub mod ClosedRoutes

@@ -1,8 +1,8 @@
--- The square with the corners (0, 0) and (10, 10), and the route round it.
+-- The square with the corners (0, 0) and (10, 10): what is said of loops holds of it.
 use Rattle.std.specs.Prelude.{ℤ, pos, List, [], ◌∷◌}
 use Rattle.nest_base.specs.declared.places.Point.{Point}
 use Rattle.nest_base.specs.declared.places.Edge.{Edge}
-use Rattle.nest_base.specs.Plane.{HalfEdge}
+use Rattle.loop_plate.specs.Loops.{IsPlate, AreLoops, IsRouteRound}
 
 abbrev pub place : ℤ → ℤ → Point
 place x y = record { x = x; y = y }
@@ -26,10 +26,12 @@ edge p q = record { low = p; high = q }
 abbrev pub square : List Edge
 square = edge southwest northwest ∷ edge southwest southeast ∷ edge northwest northeast ∷ edge southeast northeast ∷ []
 
--- the mark side, eastward along the top
-abbrev pub top : HalfEdge
-top = record { from = northwest; to = northeast }
-
 -- clockwise from the mark vertex
 abbrev pub square_route : List Point
 square_route = northwest ∷ northeast ∷ southeast ∷ southwest ∷ northwest ∷ []
+
+-- the square is a drawing of one loop, and the route goes round it
+pub record SquareIsLoop : Type 0 where
+  pub is_plate : IsPlate square (northwest ∷ [])
+  pub loops : AreLoops square
+  pub route : IsRouteRound square northwest square_route

@@ -1,31 +1,31 @@
-//! What holds of each route round one closed loop, as contracts of functions that do nothing.
-ghost use Rattle.loop_plate.specs.Loops.{IsClosedRoute};
-ghost use Rattle.loop_plate.specs.LoopPlan.{ClosedRouteIsPlan, UnburntEdgesReach, IsAloneOnItsLine, BurntLoopDetaches};
-ghost use Rattle.loop_plate.specs.ClosedRoutes.{LoopIsClosedRoute};
-ghost use Rattle.loop_plate.specs.Square.{square, top, square_route};
+//! What holds of routes round closed loops, as contracts of functions that do nothing.
+ghost use Rattle.loop_plate.specs.Loops.{OuterSidesGoRound, BurntLoopDetaches};
+ghost use Rattle.loop_plate.specs.Plans.{RoutesArePlan};
+ghost use Rattle.loop_plate.specs.LoopReport.{LoopsAreReported};
+ghost use Rattle.loop_plate.specs.Square.{SquareIsLoop};
 
-/// A route round one closed loop is a plan with one pierce: a cover by one trail that detaches no edge before it burns.
-pub fn closed_route_is_a_plan()
-    ensures { ClosedRouteIsPlan }
+/// The outer sides of a loop go round all of it: they cover its component by one trail.
+pub fn outer_sides_go_round()
+    ensures { OuterSidesGoRound }
 {}
 
-/// Both sides of an edge of a loop reach the outside while it is unburnt, whatever else is burnt.
-pub fn unburnt_edges_reach_the_outside()
-    ensures { UnburntEdgesReach }
-{}
-
-/// Once all edges of a loop are burnt its inside is detached, where no other side at the mark vertex lies on the line of the first.
+/// Once all edges of a loop are burnt its inside is detached, and so is a component that lies in it: no order that burns a loop
+/// before what lies in it would do.
 pub fn burnt_loop_detaches_its_inside()
     ensures { BurntLoopDetaches }
 {}
 
-/// The route round the edges of a drawing that are one loop is a closed route over them; so the laws above speak of it.
-pub fn route_round_edges_is_closed()
-    ensures { LoopIsClosedRoute }
+/// Routes round all loops, children before parents, are a plan with the fewest pierces.
+pub fn routes_are_a_plan()
+    ensures { RoutesArePlan }
 {}
 
-/// The route round a square is such a route, so these laws speak of something.
-pub fn route_round_a_square_is_closed()
-    ensures closed { IsClosedRoute square top square_route }
-    ensures alone { IsAloneOnItsLine square top }
+/// The report on such a plan.
+pub fn loops_are_reported()
+    ensures { LoopsAreReported }
+{}
+
+/// What these laws suppose of a drawing and of a route holds of a square.
+pub fn a_square_is_such()
+    ensures { SquareIsLoop }
 {}

@@ -1,11 +1,9 @@
-//! What the route round one closed loop means on the plate.
+//! What routes round closed loops mean on the plate.
 //!
-//! Where a drawing is one closed loop, the route round it is a plan with one pierce: no edge is detached before it burns, no
-//! cover has fewer trails, and the report on it is known. That holds of every loop and every route round it, and here it's
-//! proved in the plate's general definitions, as laws: functions that do nothing. Nothing here runs, so it costs nothing.
-//!
-//! It stands on the definitions of the plate, and on those of `loop_route`, whose routes it speaks of. The planner above cites the
-//! laws and lemmas for the routes that it finds.
+//! Where each vertex of a drawing has two half-edges, its components are closed loops, in and beside one another. The outer sides
+//! of a component, from its mark side on, are a route round it. Burnt in an order in which each comes after all that lie in it,
+//! the routes are a plan with one pierce for each component: no edge is detached before it burns, no cover has fewer trails, and
+//! the report is known. Here that's proved in the plate's general definitions, as laws: functions that do nothing.
 #![tactic(auto)]
 
 pub mod laws;

@@ -1,9 +1,4 @@
-pub mod Turns
-mod Degrees
-mod Vertices
-mod Twos
-mod Trails
-mod OneLoop
-mod Seen
-mod Marks
-mod Sides
+pub mod OuterSides
+pub mod RoundRoutes
+pub mod BurningRoutes
+pub mod Degrees

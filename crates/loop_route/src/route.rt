@@ -1,42 +1,93 @@
-//! The one simple closed loop, and the route round it.
-ghost use Rattle.std.specs.Prelude.{◌≡◌, ◌≤◌, All, IfOk, IfSome, IfNone, vec_len};
-ghost use Rattle.nest_base.specs.Order.{IsBefore};
-ghost use Rattle.nest_base.specs.Range.{IsEdgeWithin};
-ghost use Rattle.loop_route.specs.Loops.{IsOneLoop, IsRoute};
+//! Routes round components.
+ghost use Rattle.std.specs.Prelude.{◌≡◌, ◌≤◌, ◌<◌, length, slice_get, Some, List, ℕ, IfOk, map};
+ghost use Rattle.std.specs.List.{AllZip};
+ghost use Rattle.nest_base.specs.declared.places.Point.{Point};
+ghost use Rattle.nest_base.specs.Plane.{HalfEdge};
+ghost use Rattle.plate_sides.specs.Nesting.{AreParents, IsOuterRing};
+ghost use Rattle.plate_nesting.specs.Order.{IsBurningOrder};
+ghost use Rattle.face_nesting.specs.Nesting.{AreOuterRings};
+ghost use Rattle.burning_order.specs.NumbersOf.{parent_numbers_of};
+ghost use Rattle.loop_plate.specs.Loops.{IsRouteRound, AreRoutes};
 
-use crate::ends::all_are_shared_by_two;
-use crate::mark::mark_vertex;
-use crate::walk::walk_from;
-use nest_base::{Edge, OutOfMemory, Point};
+use burning_order::burning_order;
+use face_nesting::Faces;
+use half_edges::PlaneGraph;
+use nest_base::{Component, OutOfMemory, Point};
 use std::alloc::Global;
 
-/// The places of the route round the one simple closed loop that the edges are, from the mark vertex along the mark side
-/// and back to it; `None` where they are not one.
-///
-/// They are one where there are at least three, each vertex is an end of exactly two of them, and they join all vertices. The
-/// mark vertex is the westernmost one, or of several of them the northernmost. Coordinates are micrometres.
-///
-/// Takes **O(n log n)** for n edges where an end isn't shared by exactly two. Where each is, the edges are followed, in
-/// **O(n²)**. Memory is taken for the 2n ends, and once these are given back, for the edges once more and for n + 1 places;
-/// `OutOfMemory` comes for want of it alone.
-pub fn route_round(alloc: Global, edges: &[Edge]) -> Result<Option<Vec<Point>>, OutOfMemory>
-    requires ends_in_order { All (λ e. IsBefore e.low e.high) edges.now }
-    requires within { All (IsEdgeWithin 2000000000) edges.now }
-    ensures route { IfOk result (λ found. IfSome found (λ places. IsRoute edges.now places.items)) }
-    ensures one_loop { IfOk result (λ found. IfSome found (λ _. IsOneLoop edges.now)) }
-    ensures none { IfOk result (λ found. IfNone found (IsOneLoop edges.now → ⊥)) }
-    ensures several_places { IfOk result (λ found. IfSome found (λ places. 2 ≤ vec_len places)) }
+/// The places along the outer sides of a component, from its mark vertex on and back to it.
+fn route_round(
+    alloc: Global,
+    graph: &PlaneGraph,
+    faces: &Faces,
+    c: Component,
+) -> Result<Vec<Point>, OutOfMemory>
+    requires rings { AreOuterRings graph.now faces.now }
+    requires as_many { length faces.now.parents ≡ length graph.now.marks }
+    requires within { c.0 < length graph.now.marks }
+    ensures { IfOk result (λ places. (mark : Point) → slice_get graph.now.marks c.0 ≡ Some mark → IsRouteRound graph.now.edges mark places.items) }
 {
-    if edges.len() < 3 {
-        return Ok(None);
+    let ring = faces.outer_sides(c);
+    let mut places = Vec::with_capacity(alloc, ring.len() + 1)?;
+    for s in ring {
+        places.push(graph.place(graph.from(*s)))?;
     }
-    if !all_are_shared_by_two(alloc, edges)? {
-        return Ok(None);
+    places.push(graph.place(graph.mark_vertex(c)))?;
+    Ok(places)
+}
+
+/// The parent of each component.
+fn parents_of(
+    alloc: Global,
+    graph: &PlaneGraph,
+    faces: &Faces,
+) -> Result<Vec<Option<Component>>, OutOfMemory>
+    requires as_many { length faces.now.parents ≡ length graph.now.marks }
+    ensures numbers { IfOk result (λ parents. parent_numbers_of parents.items ≡ faces.now.parents) }
+    ensures few { IfOk result (λ parents. length parents.items ≤ 4000000) }
+{
+    let mut parents = Vec::new(alloc);
+    for c in 0..graph.component_count() {
+        parents.push(faces.parent(Component(c)))?;
     }
-    let mark = mark_vertex(edges);
-    let trail = walk_from(alloc, edges, mark)?;
-    if !trail.is_round(mark) {
-        return Ok(None);
+    Ok(parents)
+}
+
+/// The routes round all components, in burning order: the outer sides of each, from its mark vertex on and back to it.
+///
+/// Takes **O(n log n)** for n edges. `OutOfMemory` comes for want of memory alone.
+pub fn plan_loops(
+    alloc: Global,
+    graph: &PlaneGraph,
+    faces: &Faces,
+) -> Result<Vec<Vec<Point>>, OutOfMemory>
+    requires parents { AreParents graph.now.edges graph.now.marks faces.now.parents }
+    requires rings { AreOuterRings graph.now faces.now }
+    ensures { IfOk result (λ chains. (order : List ℕ) × IsBurningOrder faces.now.parents order ×
+        AreRoutes graph.now.edges graph.now.marks order (map (λ places. places.items) chains.items)) }
+{
+    let parents = parents_of(alloc, graph, faces)?;
+    let order = burning_order(alloc, &parents)?;
+    let mut chains = Vec::new(alloc);
+    for c in &order {
+        chains.push(route_round(alloc, graph, faces, *c)?)?;
     }
-    Ok(Some(trail.places))
+    Ok(chains)
+}
+
+/// How many outer sides each component has, which is how many edges a loop has.
+pub fn edge_counts(
+    alloc: Global,
+    graph: &PlaneGraph,
+    faces: &Faces,
+) -> Result<Vec<usize>, OutOfMemory>
+    requires parents { AreParents graph.now.edges graph.now.marks faces.now.parents }
+    requires rings { AreOuterRings graph.now faces.now }
+    ensures { IfOk result (λ counts. AllZip (λ mark n. (ring : List HalfEdge) × IsOuterRing graph.now.edges mark ring × (length ring ≡ n)) graph.now.marks counts.items) }
+{
+    let mut counts = Vec::new(alloc);
+    for c in 0..graph.component_count() {
+        counts.push(faces.outer_sides(Component(c)).len())?;
+    }
+    Ok(counts)
 }

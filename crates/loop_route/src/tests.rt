@@ -1,192 +1,96 @@
-//! Small drawings, and the routes round those that are one loop, worked out by hand.
-ghost use Rattle.std.specs.Prelude.{IsTrue, ◌↔◌};
-ghost use Rattle.nest_base.specs.Order.{IsBefore};
-ghost use Rattle.nest_base.specs.Range.{IsWithin, IsEdgeWithin};
-
-use crate::route_round;
-use anyhow::{Result, ensure};
-use nest_base::{Edge, OutOfMemory, Point};
+//! Routes round loops that were drawn by hand.
+use crate::{are_loops, edge_counts, plan_loops};
+use anyhow::{Context, Result, ensure};
+use face_nesting::Faces;
+use half_edges::PlaneGraph;
+use nest_base::Point;
+use sample_edges::edges_of;
 use std::alloc::Global;
 
-const FAR: i64 = 2_000_000_000;
+/// A segment by the coordinates of its ends.
+type Ends = [i64; 4];
 
-fn is_within(p: Point) -> bool
-    ensures { IsTrue result ↔ IsWithin 2000000000 p }
-{
-    -FAR <= p.x && p.x <= FAR && -FAR <= p.y && p.y <= FAR
+fn graph_of(alloc: Global, segments: &[Ends]) -> Result<PlaneGraph> {
+    let edges = edges_of(alloc, segments)?;
+    Ok(PlaneGraph::build(alloc, &edges)?)
 }
 
-fn is_edge_within(e: &Edge) -> bool
-    ensures { IsTrue result ↔ IsEdgeWithin 2000000000 e.now }
-{
-    is_within(e.low) && is_within(e.high)
-}
-
-fn has_ends_in_order(e: &Edge) -> bool
-    ensures { IsTrue result ↔ IsBefore e.now.low e.now.high }
-{
-    if e.low.x < e.high.x {
-        return true;
-    }
-    e.low.x == e.high.x && e.low.y < e.high.y
-}
-
-/// The edges between these ends: two coordinates of each low end, and two of each high one.
-fn edges_of(alloc: Global, ends: &[[i64; 4]]) -> Result<Vec<Edge>, OutOfMemory> {
-    let mut edges = Vec::new(alloc);
-    for &[low_x, low_y, high_x, high_y] in ends {
-        edges.push(Edge {
-            low: Point { x: low_x, y: low_y },
-            high: Point {
-                x: high_x,
-                y: high_y,
-            },
-        })?;
-    }
-    Ok(edges)
-}
-
-fn are_places(places: &[Point], wanted: &[[i64; 2]]) -> bool {
-    places.len() == wanted.len()
-        && places
+fn is_route(route: &[Point], places: &[[i64; 2]]) -> bool {
+    route.len() == places.len()
+        && route
             .iter()
-            .zip(wanted)
-            .all(|(p, w)| p.x == w[0] && p.y == w[1])
+            .zip(places)
+            .all(|(p, [x, y])| p.x == *x && p.y == *y)
 }
 
 #[test]
-fn loops_have_routes(rt: HostRuntime) -> Result<()> {
-    let square = [
-        [0, 0, 0, 10],
-        [0, 0, 10, 0],
-        [0, 10, 10, 10],
-        [10, 0, 10, 10],
-    ];
-    let scattered = [
-        [10, 0, 10, 10],
-        [0, 0, 0, 10],
-        [0, 0, 10, 0],
-        [0, 10, 10, 10],
-    ];
-    let round_the_square = [[0, 10], [10, 10], [10, 0], [0, 0], [0, 10]];
-    let triangle = [[0, 0, 5, -6], [0, 0, 8, 3], [5, -6, 8, 3]];
-    let round_the_triangle = [[0, 0], [8, 3], [5, -6], [0, 0]];
-    // Open to the west: its western vertices are (0, 0) and (0, 10).
-    let clamp = [
-        [0, 0, 3, 2],
-        [0, 0, 6, 0],
-        [0, 10, 3, 8],
-        [0, 10, 6, 10],
-        [3, 2, 3, 8],
-        [6, 0, 6, 10],
-    ];
-    let round_the_clamp = [[0, 10], [6, 10], [6, 0], [0, 0], [3, 2], [3, 8], [0, 10]];
-    for (name, ends, wanted) in [
-        ("square", square.as_slice(), round_the_square.as_slice()),
+fn loops_are_told_from_other_drawings(rt: HostRuntime) -> Result<()> {
+    let cases: [(&str, &[Ends], bool); 5] = [
         (
-            "scattered",
-            scattered.as_slice(),
-            round_the_square.as_slice(),
+            "a triangle",
+            &[[0, 0, 9, 0], [9, 0, 0, 9], [0, 9, 0, 0]],
+            true,
         ),
         (
-            "triangle",
-            triangle.as_slice(),
-            round_the_triangle.as_slice(),
+            "two triangles",
+            &[
+                [0, 0, 9, 0],
+                [9, 0, 0, 9],
+                [0, 9, 0, 0],
+                [20, 0, 29, 0],
+                [29, 0, 20, 9],
+                [20, 9, 20, 0],
+            ],
+            true,
         ),
-        ("clamp", clamp.as_slice(), round_the_clamp.as_slice()),
-    ] {
-        let edges = edges_of(rt.alloc(), ends)?;
-        ensure!(edges.iter().all(has_ends_in_order), "{name}: turned");
-        ensure!(edges.iter().all(is_edge_within), "{name}: too far");
-        let Some(places) = route_round(rt.alloc(), &edges)? else {
-            return Err(anyhow::anyhow!("{name}: no loop"));
-        };
-        ensure!(are_places(&places, wanted), "{name}: another route");
+        ("a line", &[[0, 0, 9, 0]], false),
+        (
+            "a triangle with a tail",
+            &[[0, 0, 9, 0], [9, 0, 0, 9], [0, 9, 0, 0], [9, 0, 12, 0]],
+            false,
+        ),
+        (
+            "two triangles that touch",
+            &[
+                [0, 0, 9, 0],
+                [9, 0, 0, 9],
+                [0, 9, 0, 0],
+                [9, 0, 18, 0],
+                [18, 0, 18, 9],
+                [18, 9, 9, 0],
+            ],
+            false,
+        ),
+    ];
+    for (what, segments, expected) in cases {
+        ensure!(
+            are_loops(&graph_of(rt.alloc(), segments)?) == expected,
+            "{what}"
+        );
     }
     Ok(())
 }
 
 #[test]
-fn others_have_none(rt: HostRuntime) -> Result<()> {
-    let none = [[0, 0, 0, 0]; 0];
-    let there_and_back = [[0, 0, 10, 0], [0, 0, 10, 0]];
-    let open = [[0, 0, 10, 0], [0, 10, 10, 10], [10, 0, 10, 10]];
-    // Its two long lines cross in (5, 5).
-    let bow_tie = [
-        [0, 0, 0, 10],
-        [0, 0, 5, 5],
-        [0, 10, 5, 5],
-        [5, 5, 10, 0],
-        [5, 5, 10, 10],
-        [10, 0, 10, 10],
+fn a_loop_in_another_is_followed_first(rt: HostRuntime) -> Result<()> {
+    let alloc = rt.alloc();
+    let segments = [
+        [0, 0, 30, 0],
+        [30, 0, 30, 30],
+        [30, 30, 0, 30],
+        [0, 30, 0, 0],
+        [10, 10, 20, 10],
+        [20, 10, 10, 20],
+        [10, 20, 10, 10],
     ];
-    let two_triangles = [
-        [0, 0, 0, 3],
-        [0, 0, 4, 0],
-        [0, 3, 4, 0],
-        [10, 0, 10, 3],
-        [10, 0, 14, 0],
-        [10, 3, 14, 0],
-    ];
-    let edge_beside = [[0, 0, 0, 3], [0, 0, 4, 0], [0, 3, 4, 0], [9, 9, 12, 9]];
-    // Its vertex (5, 0) lies on the line along the bottom.
-    let pinched = [
-        [0, 0, 0, 10],
-        [0, 0, 5, 0],
-        [0, 10, 5, 0],
-        [5, 0, 10, 0],
-        [5, 0, 10, 10],
-        [10, 0, 10, 10],
-    ];
-    // A triangle within a square, and another one beside it: each end belongs to two edges.
-    let three_loops = [
-        [0, 0, 0, 20],
-        [0, 0, 20, 0],
-        [0, 20, 20, 20],
-        [5, 5, 5, 8],
-        [5, 5, 9, 5],
-        [5, 8, 9, 5],
-        [20, 0, 20, 20],
-        [30, 0, 30, 3],
-        [30, 0, 34, 0],
-        [30, 3, 34, 0],
-    ];
-    // A square and its diagonal: three edges end at (0, 0), and three at (10, 10).
-    let three_ends = [
-        [0, 0, 0, 10],
-        [0, 0, 10, 0],
-        [0, 0, 10, 10],
-        [0, 10, 10, 10],
-        [10, 0, 10, 10],
-    ];
-    // Two triangles with a common vertex, where four edges end.
-    let four_ends = [
-        [-4, 0, 0, -3],
-        [-4, 0, 0, 0],
-        [0, -3, 0, 0],
-        [0, 0, 0, 3],
-        [0, 0, 4, 0],
-        [0, 3, 4, 0],
-    ];
-    for (name, ends) in [
-        ("none", none.as_slice()),
-        ("there and back", there_and_back.as_slice()),
-        ("open", open.as_slice()),
-        ("bow tie", bow_tie.as_slice()),
-        ("two triangles", two_triangles.as_slice()),
-        ("edge beside", edge_beside.as_slice()),
-        ("pinched", pinched.as_slice()),
-        ("three loops", three_loops.as_slice()),
-        ("three ends", three_ends.as_slice()),
-        ("four ends", four_ends.as_slice()),
-    ] {
-        let edges = edges_of(rt.alloc(), ends)?;
-        ensure!(edges.iter().all(has_ends_in_order), "{name}: turned");
-        ensure!(edges.iter().all(is_edge_within), "{name}: too far");
-        ensure!(
-            route_round(rt.alloc(), &edges)?.is_none(),
-            "{name}: a route"
-        );
-    }
+    let graph = graph_of(alloc, &segments)?;
+    let faces = Faces::build(alloc, &graph)?;
+    let chains = plan_loops(alloc, &graph, &faces)?;
+    let [inner, outer] = chains.as_slice() else {
+        anyhow::bail!("other chains");
+    };
+    ensure!(is_route(inner, &[[10, 20], [20, 10], [10, 10], [10, 20]]));
+    ensure!(is_route(outer, &[[0, 30], [30, 30], [30, 0], [0, 0], [0, 30]]));
+    ensure!(edge_counts(alloc, &graph, &faces)?.as_slice() == [4, 3].as_slice());
     Ok(())
 }

@@ -9,13 +9,13 @@ use Rattle.plate_edges.proofs.Counts.{one_number_of_pieces}
 use Rattle.plate_edges.proofs.OneList.{one_list}
 use Rattle.cut_desk.specs.Outside.{Outside, Told, WhereTold, Rose, Later}
 use Rattle.dxf_drawing.specs.Drawings.{segments_of}
-use Rattle.loop_route.specs.Loops.{IsOneLoop}
+use Rattle.loop_plate.specs.Loops.{HasOtherVertex}
 use Rattle.segment_split.specs.Splits.{IsSplitRefusal}
 use Rattle.segment_split.specs.declared.splitting.SplitError.{SplitError}
 use Rattle.segment_split.specs.declared.splitting.SplitError.TheVariants.{Crossing, TooManyPieces, OutOfMemory as NoMemory}
-use Rattle.nest_program.specs.Outputs.{IsAccepted, IsNoLoop}
+use Rattle.nest_program.specs.Outputs.{IsAccepted, IsNotLoops}
 use Rattle.nest_program.specs.Statuses.{IsRefused, IsDecided, HasCause, NoFaultRose, IsComplete}
-use Rattle.nest_program.specs.declared.status.Early.TheVariants.{NotOneLoop}
+use Rattle.nest_program.specs.declared.status.Early.TheVariants.{NotLoops}
 use Rattle.nest_program.specs.declared.status.Refusal.{Refusal}
 use Rattle.nest_program.specs.declared.status.Refusal.TheVariants.{Reading, Splitting}
 use Rattle.nest_program.specs.declared.status.Status.{Status}
@@ -37,9 +37,11 @@ refused_not_accepted : (file : List ℕ) (refusal : Refusal) → IsRefused file 
 refused_not_accepted file (Reading e) refused accepted = true≢false (ap is_some (sym refused.0 ∙ accepted.1.read))
 refused_not_accepted file (Splitting e) refused accepted = split_not_refused file e refused.1 refused.2 accepted
 
-no_loop_not_accepted : (file : List ℕ) → IsNoLoop file → IsAccepted file → ⊥
-no_loop_not_accepted file (edges, drawing, no_loop) (others, split, loop) =
-    no_loop (subst IsOneLoop (one_list (segments_of file) others edges split.split.are_edges drawing.split.are_edges) loop)
+other_not_accepted : (file : List ℕ) → IsNotLoops file → IsAccepted file → ⊥
+other_not_accepted file (edges, drawing, other) (others, split, loops) =
+    let same = one_list (segments_of file) edges others drawing.split.are_edges split.split.are_edges in
+    let its_other = subst HasOtherVertex same other in
+    its_other.2 (loops its_other.0 its_other.1)
 
 -- a count that rose is above itself later on too
 rose_later : (before now later : ℕ) → Rose before now → now ≤ later → Rose before later
@@ -54,7 +56,7 @@ by_status ReadFault input output old now new file command decided cause later no
     absurd (none.reads (rose_later (old.read_faults input) (now.read_faults input) (new.read_faults input) cause (later.reads input)))
 by_status TooLong input output old now new file command decided cause later none small accepted = absurd (omega (arith, decided, small))
 by_status (Drawing refusal) input output old now new file command decided cause later none small accepted = absurd (refused_not_accepted file refusal decided.1 accepted)
-by_status (Early NotOneLoop) input output old now new file command decided cause later none small accepted = absurd (no_loop_not_accepted file decided.1 accepted)
+by_status (Early NotLoops) input output old now new file command decided cause later none small accepted = absurd (other_not_accepted file decided.1 accepted)
 by_status WriteFault input output old now new file command decided cause later none small accepted =
     absurd (none.writes (rose_later (old.write_faults output) (now.write_faults output) (new.write_faults output) cause (later.writes output)))
 by_status PrintFault input output old now new file command decided cause later none small accepted =

@@ -1,3 +1,4 @@
+mod LoopLines
 pub mod Promises
 pub mod PlannedOutputs
 pub mod Completeness

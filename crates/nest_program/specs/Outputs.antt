@@ -1,12 +1,15 @@
 -- Which drawings are planned, and what they give.
-use Rattle.std.specs.Prelude.{◌≡◌, ℕ, List, [], ◌∷◌, None}
+use Rattle.std.specs.Prelude.{◌≡◌, ℕ, List, Option, None}
 use Rattle.nest_base.specs.declared.places.Point.{Point}
 use Rattle.nest_base.specs.declared.places.Edge.{Edge}
 use Rattle.code_moves.specs.CodeText.{code_text}
 use Rattle.code_moves.specs.Meaning.{code_refusal_of, moves_of}
 use Rattle.dxf_drawing.specs.Drawings.{segments_of, read_refusal_of}
 use Rattle.segment_split.specs.Splits.{IsSplit}
-use Rattle.loop_route.specs.Loops.{IsOneLoop, IsRoute}
+use Rattle.plate_sides.specs.Components.{AreMarks}
+use Rattle.plate_sides.specs.Nesting.{AreParents}
+use Rattle.plate_nesting.specs.Order.{IsBurningOrder}
+use Rattle.loop_plate.specs.Loops.{AreLoops, HasOtherVertex, AreRoutes}
 use Rattle.nest_program.specs.Promise.{IsOrderEnclosingPlan}
 
 -- the bytes are a drawing that isn't refused, and these are its edges
@@ -14,22 +17,29 @@ pub record IsDrawingOf (file : List ℕ) (edges : List Edge) : Type 0 where
   pub read : read_refusal_of file ≡ None
   pub split : IsSplit (segments_of file) edges
 
--- its edges are one simple closed loop
+-- its components are closed loops: each vertex has two half-edges
 abbrev pub IsAccepted : List ℕ → Type 0
-IsAccepted file = (edges : List Edge) × IsDrawingOf file edges × IsOneLoop edges
+IsAccepted file = (edges : List Edge) × IsDrawingOf file edges × AreLoops edges
 
--- its edges aren't one simple closed loop
-abbrev pub IsNoLoop : List ℕ → Type 0
-IsNoLoop file = (edges : List Edge) × IsDrawingOf file edges × (IsOneLoop edges → ⊥)
+-- some vertex hasn't two half-edges
+abbrev pub IsNotLoops : List ℕ → Type 0
+IsNotLoops file = (edges : List Edge) × IsDrawingOf file edges × HasOtherVertex edges
 
--- the code and the report of an accepted drawing: the code is one chain, the route round the loop, and read as motion it has no
--- fault and keeps the promise
+-- the code and the report of an accepted drawing: the code is one chain for each component, the route round it from its mark vertex
+-- along its mark side, and of the components that are ready the least number comes first; read as motion it has no fault and keeps
+-- the promise
 pub record IsOutput (file code report : List ℕ) : Type 0 where
   pub edges : List Edge
   pub drawing : IsDrawingOf file edges
-  pub one_loop : IsOneLoop edges
-  pub places : List Point
-  pub route : IsRoute edges places
-  pub code_is : code ≡ code_text (places ∷ [])
+  pub loops : AreLoops edges
+  pub marks : List Point
+  pub are_marks : AreMarks edges marks
+  pub parents : List (Option ℕ)
+  pub are_parents : AreParents edges marks parents
+  pub order : List ℕ
+  pub is_order : IsBurningOrder parents order
+  pub chains : List (List Point)
+  pub are_routes : AreRoutes edges marks order chains
+  pub code_is : code ≡ code_text chains
   pub has_no_fault : code_refusal_of code ≡ None
   pub promise : IsOrderEnclosingPlan (segments_of file) (moves_of code) report

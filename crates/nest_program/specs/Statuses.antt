@@ -7,9 +7,9 @@ use Rattle.dxf_drawing.specs.Drawings.{segments_of, read_refusal_of}
 use Rattle.segment_split.specs.Splits.{IsSplitRefusal}
 use Rattle.segment_split.specs.declared.splitting.SplitError.TheVariants.{OutOfMemory as NoMemory}
 use Rattle.nest_program.specs.FaultText.{reading_text, splitting_text}
-use Rattle.nest_program.specs.Outputs.{IsAccepted, IsNoLoop, IsOutput}
+use Rattle.nest_program.specs.Outputs.{IsAccepted, IsNotLoops, IsOutput}
 use Rattle.nest_program.specs.Promise.{IsOrderEnclosingPlan}
-use Rattle.nest_program.specs.declared.status.Early.TheVariants.{NotOneLoop}
+use Rattle.nest_program.specs.declared.status.Early.TheVariants.{NotLoops}
 use Rattle.nest_program.specs.declared.status.Refusal.{Refusal}
 use Rattle.nest_program.specs.declared.status.Refusal.TheVariants.{Reading, Splitting}
 use Rattle.nest_program.specs.declared.status.Status.{Status}
@@ -38,7 +38,7 @@ fault_text Words = codes "usage: plan IN OUT\n"
 fault_text ReadFault = codes "read fault\n"
 fault_text TooLong = codes "file too long\n"
 fault_text (Drawing refusal) = refusal_text refusal
-fault_text (Early NotOneLoop) = codes "refused not one loop\n"
+fault_text (Early NotLoops) = codes "refused not loops\n"
 fault_text WriteFault = codes "write fault\n"
 fault_text PrintFault = []
 fault_text Memory = codes "out of memory\n"
@@ -52,7 +52,7 @@ IsRefused file (Splitting e) = (read_refusal_of file ≡ None) × IsSplitRefusal
 abbrev pub IsDecided : Status → List ℕ → Type 0
 IsDecided TooLong file = 2 ^ 26 < length file
 IsDecided (Drawing refusal) file = (length file ≤ 2 ^ 26) × IsRefused file refusal
-IsDecided (Early NotOneLoop) file = (length file ≤ 2 ^ 26) × IsNoLoop file
+IsDecided (Early NotLoops) file = (length file ≤ 2 ^ 26) × IsNotLoops file
 IsDecided Done file = (length file ≤ 2 ^ 26) × IsAccepted file
 IsDecided WriteFault file = (length file ≤ 2 ^ 26) × IsAccepted file
 IsDecided PrintFault file = (length file ≤ 2 ^ 26) × IsAccepted file

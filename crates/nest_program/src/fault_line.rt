@@ -150,7 +150,7 @@ pub fn fault_line(status: &Status) -> FaultLine
         Status::ReadFault => FaultLine::of(b"read fault\n"),
         Status::TooLong => FaultLine::of(b"file too long\n"),
         Status::Drawing(refusal) => refused_line(refusal),
-        Status::Early(Early::NotOneLoop) => FaultLine::of(b"refused not one loop\n"),
+        Status::Early(Early::NotLoops) => FaultLine::of(b"refused not loops\n"),
         Status::WriteFault => FaultLine::of(b"write fault\n"),
         Status::Memory => FaultLine::of(b"out of memory\n"),
     }

@@ -1,16 +1,19 @@
 //! From the bytes of a drawing to the code and the report, all in memory.
-ghost use Rattle.std.specs.Prelude.{◌≡◌, ◌≤◌, ◌^◌, ◌∷◌, [], length, All, IfOk, IfErr};
+ghost use Rattle.std.specs.Prelude.{◌≡◌, ◌≤◌, ◌^◌, length, map, All, AllPairs, IfOk, IfErr};
 ghost use Rattle.nest_base.specs.Order.{IsBefore};
 ghost use Rattle.nest_base.specs.Range.{IsEdgeWithin};
+ghost use Rattle.plate_edges.specs.Points.{EdgesMeetAtEndsOnly};
 ghost use Rattle.code_moves.specs.CodeText.{code_text};
 ghost use Rattle.nest_program.specs.Outputs.{IsDrawingOf, IsOutput};
 ghost use Rattle.nest_program.specs.Reasons.{IsReason};
 ghost use Rattle.nest_program.specs.declared.output.PlanError.TheVariants.{OutOfMemory as NoMemory};
 
-use crate::report::put_loop_report;
+use crate::report::put_loops_report;
 use crate::status::{Early, Refusal};
 use dxf_drawing::{DrawingError, read_drawing};
-use loop_route::route_round;
+use face_nesting::Faces;
+use half_edges::PlaneGraph;
+use loop_route::{are_loops, edge_counts, plan_loops};
 use nest_base::{Edges, OutOfMemory, Point, Text};
 use ngc_writer::{write_chain, write_head, write_tail};
 use segment_split::{SplitError, split};
@@ -43,14 +46,16 @@ impl From<OutOfMemory> for PlanError {
     }
 }
 
-/// The whole code of one chain through these places.
-fn code_of(alloc: Global, places: &[Point]) -> Result<Text, OutOfMemory>
-    requires { 2 ≤ length places.now }
-    ensures { IfOk result (λ code. code ≡ code_text (places.now ∷ [])) }
+/// The whole code of these chains of places.
+fn code_of(alloc: Global, chains: &[Vec<Point>]) -> Result<Text, OutOfMemory>
+    requires { All (λ places. 2 ≤ length places.items) chains.now }
+    ensures { IfOk result (λ code. code ≡ code_text (map (λ places. places.items) chains.now)) }
 {
     let mut code = Text::new(alloc);
     write_head(&mut code)?;
-    write_chain(places, &mut code)?;
+    for places in chains {
+        write_chain(places, &mut code)?;
+    }
     write_tail(&mut code)?;
     Ok(code)
 }
@@ -61,6 +66,8 @@ fn edges_of(alloc: Global, bytes: &[u8]) -> Result<Edges, PlanError>
     ensures edges { IfOk result (λ edges. IsDrawingOf bytes.now edges) }
     ensures ends_in_order { IfOk result (λ edges. All (λ e. IsBefore e.low e.high) edges) }
     ensures within { IfOk result (λ edges. All (IsEdgeWithin 100000000) edges) }
+    ensures few { IfOk result (λ edges. length edges ≤ 2000000) }
+    ensures apart { IfOk result (λ edges. AllPairs EdgesMeetAtEndsOnly edges) }
     ensures refused { IfErr result (λ why. IsReason why bytes.now) }
 {
     let drawing = match read_drawing(alloc, bytes) {
@@ -82,11 +89,15 @@ pub fn output_of(alloc: Global, bytes: &[u8]) -> Result<Output, PlanError>
     ensures refused { IfErr result (λ why. IsReason why bytes.now) }
 {
     let edges = edges_of(alloc, bytes)?;
-    let Some(places) = route_round(alloc, edges.as_slice())? else {
-        return Err(PlanError::Early(Early::NotOneLoop));
-    };
-    let code = code_of(alloc, places.as_slice())?;
+    let graph = PlaneGraph::build(alloc, &edges)?;
+    if !are_loops(&graph) {
+        return Err(PlanError::Early(Early::NotLoops));
+    }
+    let faces = Faces::build(alloc, &graph)?;
+    let chains = plan_loops(alloc, &graph, &faces)?;
+    let code = code_of(alloc, &chains)?;
+    let counts = edge_counts(alloc, &graph, &faces)?;
     let mut report = Text::new(alloc);
-    put_loop_report(edges.as_slice().len(), &mut report)?;
+    put_loops_report(&counts, &mut report)?;
     Ok(Output { code, report })
 }

@@ -14,11 +14,11 @@ pub enum Refusal {
     Splitting(SplitError),
 }
 
-/// Why a drawing that was split isn't planned, as long as one simple closed loop is all that is.
+/// Why a drawing that was split isn't planned, as long as closed loops are all that is.
 #[derive(Clone, Copy, Debug, PartialEq, Eq, Drop)]
 pub enum Early {
-    /// Its edges aren't one simple closed loop.
-    NotOneLoop,
+    /// Some vertex hasn't two half-edges.
+    NotLoops,
 }
 
 /// How a run ends.

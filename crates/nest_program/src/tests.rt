@@ -1,5 +1,6 @@
 mod counts;
 mod loops;
+mod nests;
 mod planned;
 mod refused;
 mod splits;
@@ -98,8 +99,8 @@ fn is_refused(alloc: Global, what: &str, drawing: &[u8], why: &str) -> Result<()
     let printed = str::from_utf8(desk.printed())?;
     ensure!(printed == expected.as_str(), "{what}: {printed}");
     ensure!(desk.file("a.ngc").is_none(), "{what}");
-    let is_early = matches!(status, Status::Early(Early::NotOneLoop));
-    ensure!(is_early == (why == "not one loop"), "{what}: {status:?}");
+    let is_early = matches!(status, Status::Early(Early::NotLoops));
+    ensure!(is_early == (why == "not loops"), "{what}: {status:?}");
     ensure!(status.code() == 4, "{what}");
     Ok(())
 }

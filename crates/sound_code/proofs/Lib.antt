@@ -1,6 +1,5 @@
-mod Apart
-mod Pairs
+mod Trails
 mod MovesAlong
-pub mod SoundRoutes
-pub mod RouteLightings
-pub mod RouteChains
+pub mod SoundPlans
+pub mod PlanLightings
+pub mod WritableChains

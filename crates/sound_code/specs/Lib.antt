@@ -1,3 +1,3 @@
 pub mod Sound
 pub mod Lightings
-pub mod Routes
+pub mod Plans

@@ -1,15 +1,15 @@
 //! What holds of sound code and its lightings, as contracts of functions that do nothing.
-ghost use Rattle.sound_code.specs.Routes.{BurntRouteIsSound, BurntRouteIsOneLighting, RouteIsOnePierce, RouteIsChain};
+ghost use Rattle.sound_code.specs.Plans.{BurntPlanIsSound, BurntPlanHasLightings, PlanHasPierces, ChainsCanBeWritten};
 
-/// Code that burns a route which follows each edge once, in an order that detaches none before it burns, is sound. A route of at
-/// least one leg is one lighting, and one pierce in the component in which all its legs lie.
-pub fn burnt_route_is_sound()
-    ensures sound { BurntRouteIsSound }
-    ensures lighting { BurntRouteIsOneLighting }
-    ensures pierce { RouteIsOnePierce }
+/// Code that burns chains which cover the edges, in an order that detaches none before it burns, is sound. Each chain is one
+/// lighting, in order, and one pierce in the component in which all its legs lie.
+pub fn burnt_plan_is_sound()
+    ensures sound { BurntPlanIsSound }
+    ensures lightings { BurntPlanHasLightings }
+    ensures pierces { PlanHasPierces }
 {}
 
-/// A route that follows edges which can be cut, each once, one way or the other, can be written as code.
-pub fn route_is_chain()
-    ensures { RouteIsChain }
+/// Chains that cover edges which can be cut can be written as code.
+pub fn chains_can_be_written()
+    ensures { ChainsCanBeWritten }
 {}

@@ -36,14 +36,14 @@ const LINES: [Case; 7] = [
         "0=ENDSEC|0=EOF|",
         "E9 line 240006 too many",
     ),
-    ("|", LINE, 20_000, "0=ENDSEC|0=EOF|", "not one loop"),
+    ("|", LINE, 20_000, "0=ENDSEC|0=EOF|", "not loops"),
     // A segment of no length is no segment.
     (
         "|",
         LINE,
         20_000,
         "0=LINE|10=3|20=3|11=3|21=3|0=ENDSEC|0=EOF|",
-        "not one loop",
+        "not loops",
     ),
     // The count comes behind all else that is wrong with an entity.
     (
@@ -108,7 +108,7 @@ const POLYLINES: [Case; 6] = [
         VERTICES,
         10_000,
         "0=SEQEND|0=EOF|",
-        "not one loop",
+        "not loops",
     ),
 ];
 
@@ -145,7 +145,7 @@ const GRIDS: [Case; 4] = [
         SMALLER_GRID,
         1_000,
         "0=LINE|10=0|20=0.5|11=999|21=0.5|0=LINE|10=-5|20=0|11=-5|21=1|0=ENDSEC|0=EOF|",
-        "not one loop",
+        "not loops",
     ),
     (
         "|",

@@ -1,14 +1,14 @@
-//! Drawings of lines that are one loop, or none.
+//! Drawings of lines that are one loop, and such as aren't loops.
 ghost use Rattle.std.specs.Prelude.{◌<◌};
 
 use super::{HEAD, SQUARE_CODE, TAIL, is_planned, is_refused, put_lines};
 use anyhow::Result;
 use std::alloc::{AllocError, Global};
 
-const NOT_ONE_LOOP: &str = "not one loop";
+const NOT_LOOPS: &str = "not loops";
 
-/// Drawings that are no loop.
-const NO_LOOPS: [(&str, &[&str]); 11] = [
+/// Drawings with a vertex that hasn't two half-edges.
+const NO_LOOPS: [(&str, &[&str]); 12] = [
     ("a single line", &["0 0 100000.000 0"]),
     ("a line there and back", &["0 0 1 0", "1 0 0 0"]),
     ("an open square", &["0 0 9 0", "9 0 9 9", "9 9 0 9"]),
@@ -18,9 +18,19 @@ const NO_LOOPS: [(&str, &[&str]); 11] = [
         &["0 0 4 0", "4 0 4 4", "4 4 2 0", "2 0 0 4", "0 4 0 0"],
     ),
     (
-        "two triangles",
+        "a triangle and a line beside it",
+        &["0 0 1 0", "1 0 0 1", "0 1 0 0", "5 0 6 0"],
+    ),
+    (
+        "two squares that share a line",
         &[
-            "0 0 1 0", "1 0 0 1", "0 1 0 0", "5 0 6 0", "6 0 5 1", "5 1 5 0",
+            "0 0 9 0",
+            "9 0 9 9",
+            "9 9 0 9",
+            "0 9 0 0",
+            "9 0 18 0",
+            "18 0 18 9",
+            "18 9 9 9",
         ],
     ),
     (
@@ -86,11 +96,11 @@ pub fn report_of(alloc: Global, edges: usize) -> Result<String, AllocError> {
 }
 
 #[test]
-fn drawings_that_are_no_loop_are_refused(rt: HostRuntime) -> Result<()> {
+fn drawings_that_are_not_loops_are_refused(rt: HostRuntime) -> Result<()> {
     let alloc = rt.alloc();
     for (what, lines) in NO_LOOPS {
         let drawing = drawing_of(alloc, lines)?;
-        is_refused(alloc, what, &drawing, NOT_ONE_LOOP)?;
+        is_refused(alloc, what, &drawing, NOT_LOOPS)?;
     }
     Ok(())
 }
@@ -210,8 +220,8 @@ fn loops_of_many_edges_are_planned(rt: HostRuntime) -> Result<()> {
 }
 
 #[test]
-fn a_long_chain_of_lines_is_soon_known_for_no_loop(rt: HostRuntime) -> Result<()> {
+fn a_long_chain_of_lines_is_refused(rt: HostRuntime) -> Result<()> {
     let alloc = rt.alloc();
     let drawing = strip_drawing_of(alloc, 9_999, 19_999)?;
-    is_refused(alloc, "chain", &drawing, NOT_ONE_LOOP)
+    is_refused(alloc, "chain", &drawing, NOT_LOOPS)
 }

@@ -1,5 +1,5 @@
-use Rattle.loop_plate.proofs.Insides.{burnt_detaches}
+use Rattle.loop_plate.proofs.Detached.{burnt_loop_detaches}
 use Rattle.loop_plate.proofs.laws.burnt_loop_detaches_its_inside.Goals as goal
 
 pub returns : goal.returns
-returns c = λ edges side places r alone. burnt_detaches r alone
+returns c = burnt_loop_detaches
