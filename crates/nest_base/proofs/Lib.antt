@@ -14,6 +14,7 @@ pub mod Angles
 pub mod Points
 pub mod Orders
 pub mod Lists
+pub mod Fewer
 pub mod Pairs
 pub mod Selections
 pub mod Walks

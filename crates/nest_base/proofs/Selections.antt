@@ -27,6 +27,15 @@ Selects-contains P (passed {x = z} {xs} {ys} q h) x c p = elim (Contains-cases z
   | inr m ↦ Selects-contains P h x m p
 ]
 
+-- what is selected is an element, and has P
+pub Selects-origin : {X : Type 0} (P : X → Type 0) {xs ys : List X} → Selects P xs ys → (y : X) → Contains ys y → Contains xs y × P y
+Selects-origin P none y c = absurd (Contains-none y c)
+Selects-origin P (taken {x} {xs} {ys} p h) y c = elim (Contains-cases x y ys c) [
+  | inl e ↦ (subst (Contains (x ∷ xs)) e (Contains-head x xs), subst P e p)
+  | inr m ↦ let r = Selects-origin P h y m in (Contains-later x y xs r.0, r.1)
+]
+Selects-origin P (passed {x} {xs} n h) y c = let r = Selects-origin P h y c in (Contains-later x y xs r.0, r.1)
+
 -- where all elements have P, all are selected
 pub Selects-all : {X : Type 0} (P : X → Type 0) (xs : List X) → ((x : X) → Contains xs x → P x) → Selects P xs xs
 Selects-all P [] h = none

@@ -4,17 +4,26 @@ use Rattle.nest_base.specs.declared.places.Point.{Point}
 use Rattle.nest_base.specs.declared.places.Edge.{Edge}
 use Rattle.nest_base.specs.Plane.{HalfEdge, twin}
 use Rattle.nest_base.specs.Walks.{Walk, here, on, against}
-use Rattle.nest_base.proofs.Walks.{Walk-then, Walk-back}
+use Rattle.nest_base.proofs.Walks.{Walk-then, Walk-back, Walk-keeps}
 use Rattle.plate_sides.specs.Sides.{IsHalfEdge, IsNextCcw}
 use Rattle.plate_sides.specs.Components.{IsIn, SameComponent}
-use Rattle.plate_sides.specs.Links.{At, along}
+use Rattle.plate_sides.specs.Links.{At, along, IsAlong, IsOuterSide}
 use Rattle.plate_sides.specs.Nesting.{IsRound, IsWhole}
 use Rattle.plate_sides.specs.Reach.{HasEdge, IsLinkedOver, within, across}
+use Rattle.plate_sides.proofs.Components.{twin_is_in}
 use Rattle.plate_sides.proofs.HalfEdges.{twin_is_half_edge}
 
--- an edge joins its two ends
-pub twin_is_in : (edges : List Edge) (mark : Point) (h : HalfEdge) → IsIn edges mark h → IsIn edges mark (twin h)
-twin_is_in edges mark h (is, same) = (twin_is_half_edge edges h is, on (twin_is_half_edge edges h is) same)
+-- half-edges go along within their component
+along_is_in : (edges : List Edge) (mark : Point) (a b : HalfEdge) → IsAlong edges a b → (IsIn edges mark a → IsIn edges mark b) × (IsIn edges mark b → IsIn edges mark a)
+along_is_in edges mark a b (is, next) = (
+  λ inside. (next.one, subst (λ v. SameComponent edges v mark) next.other.1 (twin_is_in edges mark a inside).1),
+  λ inside. (is, on is (subst (λ v. SameComponent edges v mark) (sym next.other.1) inside.1)),
+)
+
+-- so its outer sides lie in it
+pub outer_side_is_in : (edges : List Edge) (mark : Point) (h : HalfEdge) → IsOuterSide edges mark h → IsIn edges mark h
+outer_side_is_in edges mark h (m, side, leaves, walk) =
+    Walk-keeps (IsIn edges mark) (along_is_in edges mark) walk (side.is_side, subst (λ v. SameComponent edges v mark) (sym leaves) here)
 
 -- the vertices of two half-edges of one component are joined
 pub both_are_joined : (edges : List Edge) (mark u v : Point) → SameComponent edges u mark → SameComponent edges v mark → SameComponent edges u v

@@ -6,21 +6,12 @@ use Rattle.nest_base.specs.declared.places.Point.{Point}
 use Rattle.nest_base.specs.declared.places.Edge.{Edge}
 use Rattle.nest_base.specs.Plane.{HalfEdge, twin}
 use Rattle.nest_base.proofs.Lists.{Contains-head, Contains-later, Contains-cases, Contains-none}
-use Rattle.plate_sides.specs.Sides.{IsHalfEdgeOf}
 use Rattle.plate_sides.specs.Components.{IsMark, IsIn}
 use Rattle.plate_sides.specs.Nesting.{IsParent, IsWhole}
 use Rattle.plate_sides.specs.Reach.{HasEdge}
 use Rattle.plate_covers.specs.Plans.{IsOrderWithin, AreFinished, IsReady}
-use Rattle.plate_nesting.proofs.Components.{twin_is_in}
+use Rattle.plate_sides.proofs.Components.{twin_is_in}
 use Rattle.plate_nesting.proofs.Marks.{one_mark}
-use Rattle.plate_nesting.proofs.Meetings.{same_or_twin}
-
--- half-edges of one edge lie in one component
-pub edge_is_in : (edges : List Edge) (mark : Point) (e : Edge) (h k : HalfEdge) → IsHalfEdgeOf e h → IsHalfEdgeOf e k → IsIn edges mark h → IsIn edges mark k
-edge_is_in edges mark e h k of_h of_k inside = elim (same_or_twin e k h of_k of_h) [
-  | inl same ↦ subst (IsIn edges mark) (sym same) inside
-  | inr turned ↦ subst (IsIn edges mark) (sym turned) (twin_is_in edges mark h inside)
-]
 
 -- an edge of a list is named by a half-edge of the list, in the same component
 pub stands_in : (edges : List Edge) (mark : Point) (list : List HalfEdge) (t : HalfEdge) → IsIn edges mark t → HasEdge list t →

@@ -15,3 +15,4 @@ pub mod Finished
 pub mod Enclosing
 pub mod Counts
 pub mod Plans
+pub mod OuterRings

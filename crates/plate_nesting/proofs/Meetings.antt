@@ -9,13 +9,7 @@ use Rattle.plate_edges.specs.Points.{EdgesMeetAtEndsOnly, IsEndOfEdge}
 use Rattle.plate_edges.proofs.Lists.{pair_of}
 use Rattle.plate_edges.proofs.Places.{place_at}
 use Rattle.plate_sides.specs.Sides.{IsHalfEdgeOf, IsHalfEdge}
-
--- two half-edges of one edge are equal, or each is the twin of the other
-pub same_or_twin : (e : Edge) (h k : HalfEdge) → IsHalfEdgeOf e h → IsHalfEdgeOf e k → (h ≡ k) ⊎ (h ≡ twin k)
-same_or_twin e h k (inl p) (inl q) = inl (p ∙ sym q)
-same_or_twin e h k (inl p) (inr q) = inr (p ∙ sym (ap twin q))
-same_or_twin e h k (inr p) (inl q) = inr (p ∙ sym (ap twin q))
-same_or_twin e h k (inr p) (inr q) = inl (p ∙ sym q)
+use Rattle.plate_sides.proofs.HalfEdges.{same_or_twin}
 
 -- what lies on a half-edge lies on its edge
 pub on_edge_of : (e : Edge) (h : HalfEdge) (p : RationalPoint) → IsHalfEdgeOf e h → IsOn p h.from h.to → IsOn p e.low e.high

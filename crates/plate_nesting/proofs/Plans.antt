@@ -17,7 +17,8 @@ use Rattle.plate_covers.specs.Plans.{IsReady, AreFinished, CoversWithin, IsPlanF
 use Rattle.plate_nesting.proofs.Counts.{HasCount-append, HasCount-none, HasCount-all}
 use Rattle.plate_nesting.proofs.Cuts.{no_cut}
 use Rattle.plate_nesting.proofs.Enclosing.{ready_orders_enclose}
-use Rattle.plate_nesting.proofs.Finished.{edge_is_in, finished_next, nothing_finished}
+use Rattle.plate_sides.proofs.Components.{edge_is_in}
+use Rattle.plate_nesting.proofs.Finished.{finished_next, nothing_finished}
 use Rattle.plate_nesting.proofs.Marks.{one_mark}
 
 pub joined-append : (trails more : List (List HalfEdge)) → joined (trails ++ more) ≡ joined trails ++ joined more

@@ -10,7 +10,7 @@ use Rattle.nest_base.proofs.Differences.{diff_of, diffs, diff_same}
 use Rattle.nest_base.proofs.Signs.{mul_nonneg}
 use Rattle.plate_sides.specs.Components.{IsMark, IsIn}
 use Rattle.plate_sides.specs.Nesting.{IsParent}
-use Rattle.plate_nesting.proofs.Components.{twin_is_in}
+use Rattle.plate_sides.proofs.Components.{twin_is_in}
 use Rattle.plate_nesting.proofs.Factors.{less_or_not}
 
 -- the cross product of the heading from (fx, fy) to (tx, ty) with the direction to (qx, qy)

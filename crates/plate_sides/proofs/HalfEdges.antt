@@ -42,6 +42,13 @@ twin_is_half_edge_of e h (inr is) = inl (ap twin is)
 pub twin_is_half_edge : (edges : List Edge) (h : HalfEdge) → IsHalfEdge edges h → IsHalfEdge edges (twin h)
 twin_is_half_edge edges h (e, stands, is) = (e, stands, twin_is_half_edge_of e h is)
 
+-- two half-edges of one edge are equal, or each is the twin of the other
+pub same_or_twin : (e : Edge) (h k : HalfEdge) → IsHalfEdgeOf e h → IsHalfEdgeOf e k → (h ≡ k) ⊎ (h ≡ twin k)
+same_or_twin e h k (inl p) (inl q) = inl (p ∙ sym q)
+same_or_twin e h k (inl p) (inr q) = inr (p ∙ sym (ap twin q))
+same_or_twin e h k (inr p) (inl q) = inr (p ∙ sym (ap twin q))
+same_or_twin e h k (inr p) (inr q) = inl (p ∙ sym q)
+
 -- one half-edge of an edge leaves each of its ends
 pub leaves_once : (e : Edge) (h k : HalfEdge) → IsBefore e.low e.high → IsHalfEdgeOf e h → IsHalfEdgeOf e k → h.from ≡ k.from → h ≡ k
 leaves_once e h k a (inl p) (inl q) at = p ∙ sym q

@@ -1,4 +1,5 @@
 pub mod HalfEdges
+pub mod Components
 pub mod Vertices
 pub mod Angles
 pub mod Sixteen
