@@ -12,6 +12,7 @@ use Rattle.plate_sides.specs.Links.{IsSeen}
 use Rattle.plate_sides.specs.Nesting.{IsParent}
 use Rattle.plate_nesting.proofs.Sights.{parent_comes_before}
 use Rattle.half_edges.specs.Numbers.{half_edges_of, IsSide}
+use Rattle.half_edges.specs.PlaneGraphs.{IsPlaneGraph}
 use Rattle.half_edges.specs.Graph.{Graph, rotation_of, origin_of, part_of}
 use Rattle.half_edges.proofs.Items.{one_read, AllPairs-reads, All-from_reads, read_below, read-front}
 use Rattle.face_nesting.specs.Rings.{AreAllRings}
@@ -19,12 +20,12 @@ use Rattle.face_nesting.specs.Sights.{IsMarkSideOf, AreMarkSides, IsSight, AreSi
 use Rattle.face_nesting.specs.Numbering.{SeesEarlier}
 use Rattle.face_nesting.proofs.Zips.{zip_first, zip_second}
 use Rattle.face_nesting.proofs.RingMembers.{heads, number_of, side_within, head_numbered, number_below, members_keep, few_rings}
-use Rattle.face_nesting.proofs.KnownGraph.{IsKnown, few_sides, is_mark_at, part_along}
+use Rattle.face_nesting.proofs.KnownGraph.{few_sides, is_mark_at, part_along}
 use Rattle.face_nesting.proofs.MarkSideParts.{mark_side_part}
 
 -- what is found of a graph
 pub record AreFound (graph : Graph) (mark_sides ring_of sides starts : List ℕ) (sights : List (Option ℕ)) : Type 0 where
-  pub known : IsKnown graph
+  pub known : IsPlaneGraph graph
   pub are_mark_sides : AreMarkSides graph.edges graph.marks mark_sides
   pub are_rings : AreAllRings (rotation_of graph) mark_sides ring_of sides starts
   pub are_sights : AreSights graph.edges graph.marks sights

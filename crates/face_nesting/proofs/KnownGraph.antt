@@ -1,69 +1,29 @@
--- What is known of a graph, and what it says of numbers: of half-edges, of components.
-use Rattle.std.proofs.Common.{arith, ◌≡◌, ◌≢◌, ℕ, ◌<◌, ◌≤◌, inl, inr, List, length, refl, sym, ap, subst, ◌∙◌}
-use Rattle.std.specs.Prelude.{All, AllPairs, Some, slice_get}
-use Rattle.std.proofs.lemmas.List.Elements.{All-contains}
+-- What a plane graph says of numbers: of half-edges, of components.
+use Rattle.std.proofs.Common.{arith, ◌≡◌, ℕ, ◌<◌, ◌≤◌, length, refl, sym, ap, subst, ◌∙◌}
+use Rattle.std.specs.Prelude.{Some, slice_get}
 use Rattle.nest_base.specs.declared.places.Point.{Point}
-use Rattle.nest_base.specs.declared.places.Edge.{Edge}
-use Rattle.nest_base.specs.Plane.{HalfEdge, twin}
-use Rattle.nest_base.specs.Order.{IsBefore, IsMarkedBefore}
-use Rattle.nest_base.proofs.Orders.{IsBefore-irrefl, IsMarkedBefore-irrefl}
-use Rattle.plate_edges.specs.Points.{EdgesMeetAtEndsOnly}
-use Rattle.plate_sides.specs.Sides.{forth, IsHalfEdgeOf}
-use Rattle.plate_sides.specs.Components.{IsMark, IsIn, AreMarks}
+use Rattle.nest_base.specs.Plane.{HalfEdge}
+use Rattle.nest_base.specs.Order.{IsMarkedBefore}
+use Rattle.nest_base.proofs.Orders.{IsMarkedBefore-irrefl}
+use Rattle.plate_sides.specs.Components.{IsMark, IsIn}
 use Rattle.plate_sides.specs.Links.{IsAlong}
-use Rattle.plate_sides.proofs.HalfEdges.{one_edge}
 use Rattle.plate_nesting.proofs.Alongs.{along_is_one}
 use Rattle.plate_nesting.proofs.Marks.{one_mark}
 use Rattle.half_edges.specs.Numbers.{half_edges_of, IsSide}
-use Rattle.half_edges.specs.Rotation.{IsRotation, Divides, along}
-use Rattle.half_edges.specs.Graph.{Graph, GoesAlong, LieInParts, rotation_of, origin_of, part_of}
+use Rattle.half_edges.specs.Rotation.{along}
+use Rattle.half_edges.specs.PlaneGraphs.{IsPlaneGraph}
+use Rattle.half_edges.specs.Graph.{Graph, rotation_of, origin_of, part_of}
 use Rattle.half_edges.proofs.Items.{read_below, one_read, Contains-from_read, read_from_Contains}
-use Rattle.half_edges.proofs.Numbers.{length-half_edges, side_of, IsSideOf}
-use Rattle.half_edges.proofs.GraphCycles.{one_place}
+use Rattle.half_edges.proofs.Numbers.{length-half_edges}
+use Rattle.half_edges.proofs.SideNumbers.{one_place, one_number as side_number}
 
--- of its edges, and of its half-edges and components by number
-pub record IsKnown (graph : Graph) : Type 0 where
-  pub few : length graph.edges ≤ 2000000
-  pub ends_in_order : All (λ (e : Edge). IsBefore e.low e.high) graph.edges
-  pub each_once : AllPairs (λ (e f : Edge). e ≢ f) graph.edges
-  pub apart : AllPairs EdgesMeetAtEndsOnly graph.edges
-  pub rotation : IsRotation (rotation_of graph)
-  pub goes_along : GoesAlong graph
-  pub are_marks : AreMarks graph.edges graph.marks
-  pub divides : Divides (rotation_of graph) (part_of graph)
-  pub parts : LieInParts graph
-
-half_of_number : (edges : List Edge) (s k : ℕ) (h : HalfEdge) (e : Edge) → IsSideOf edges s h k e → IsHalfEdgeOf e h
-half_of_number edges s k h e (at, inl (number, is)) = inl is
-half_of_number edges s k h e (at, inr (number, is)) = inr is
-
--- the two half-edges of an edge differ
-not_its_twin : (e : Edge) → IsBefore e.low e.high → forth e ≡ twin (forth e) → ⊥
-not_its_twin e ordered same = IsBefore-irrefl e.low e.high ordered (ap (λ (h : HalfEdge). h.from) same)
-
-one_of_two : (edges : List Edge) (s t k : ℕ) (h : HalfEdge) (e : Edge) → IsBefore e.low e.high → IsSideOf edges s h k e → IsSideOf edges t h k e → s ≡ t
-one_of_two edges s t k h e ordered (at, inl p) (also, inl q) = p.0 ∙ sym q.0
-one_of_two edges s t k h e ordered (at, inl p) (also, inr q) = absurd (not_its_twin e ordered (sym p.1 ∙ q.1))
-one_of_two edges s t k h e ordered (at, inr p) (also, inl q) = absurd (not_its_twin e ordered (sym q.1 ∙ p.1))
-one_of_two edges s t k h e ordered (at, inr p) (also, inr q) = p.0 ∙ sym q.0
-
-module _ {graph : Graph} (known : IsKnown graph) where
+module _ {graph : Graph} (known : IsPlaneGraph graph) where
   pub few_sides : length (half_edges_of graph.edges) ≤ 4000000
   few_sides = omega (arith, known.few, length-half_edges graph.edges)
 
-  ordered_at : (k : ℕ) (e : Edge) → slice_get graph.edges k ≡ Some e → IsBefore e.low e.high
-  ordered_at k e at = All-contains (λ (f : Edge). IsBefore f.low f.high) graph.edges e known.ends_in_order (Contains-from_read graph.edges k e at)
-
   -- a half-edge has one number
   pub one_number : (s t : ℕ) (h : HalfEdge) → IsSide graph.edges s h → IsSide graph.edges t h → s ≡ t
-  one_number s t h is_s is_t = of (side_of graph.edges s h is_s) (side_of graph.edges t h is_t)
-    where
-      of : (k : ℕ) × (e : Edge) × IsSideOf graph.edges s h k e → (k : ℕ) × (e : Edge) × IsSideOf graph.edges t h k e → s ≡ t
-      of (k, e, is) (j, f, also) =
-          let one = one_edge e f h (ordered_at k e is.0) (ordered_at j f also.0) (half_of_number graph.edges s k h e is) (half_of_number graph.edges t j h f also) in
-          let same : k ≡ j = one_place (λ (a b : Edge). a ≢ b) graph.edges k j e (λ a other. other refl) known.each_once is.0 (also.0 ∙ ap Some (sym one)) in
-          one_of_two graph.edges s t k h e (ordered_at k e is.0) is
-          (subst (λ (d : Edge). IsSideOf graph.edges t h k d) (sym one) (subst (λ m. IsSideOf graph.edges t h m f) (sym same) also))
+  one_number = side_number graph.edges known.ends_in_order known.each_once
 
   -- half-edges that go along to one another on the plate do so by number
   pub along_number : (s : ℕ) (g h : HalfEdge) → IsSide graph.edges s g → IsAlong graph.edges g h → IsSide graph.edges (along (rotation_of graph) s) h

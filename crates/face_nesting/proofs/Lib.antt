@@ -9,11 +9,11 @@ mod RingWrites
 mod RingRounds
 mod RingFaces
 mod FaceNumbers
-mod NumbersOf
+pub mod NumbersOf
 pub mod Zips
 mod ByNumber
 mod RingMembers
-mod KnownGraph
+pub mod KnownGraph
 mod MarkSideParts
 mod FoundRings
 mod Anchors

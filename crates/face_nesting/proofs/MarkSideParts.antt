@@ -12,19 +12,20 @@ use Rattle.plate_sides.specs.Nesting.{HasMarkSides}
 use Rattle.plate_nesting.proofs.Alongs.{mark_side_is_one}
 use Rattle.half_edges.specs.Numbers.{half_edges_of, IsSide}
 use Rattle.half_edges.specs.Rotation.{Rotation, along}
+use Rattle.half_edges.specs.PlaneGraphs.{IsPlaneGraph}
 use Rattle.half_edges.specs.Graph.{Graph, rotation_of, origin_of, part_of}
 use Rattle.half_edges.proofs.Items.{AllPairs-from_reads, All-from_reads}
 use Rattle.face_nesting.specs.Rings.{OnOneRing}
 use Rattle.face_nesting.specs.Sights.{IsMarkSideOf, AreMarkSides}
 use Rattle.face_nesting.proofs.Zips.{zip_first, zip_second}
-use Rattle.face_nesting.proofs.KnownGraph.{IsKnown, along_below, part_along, part_is, mark_number}
+use Rattle.face_nesting.proofs.KnownGraph.{along_below, part_along, part_is, mark_number}
 
 -- n half-edges on
 abbrev later : Rotation → ℕ → ℕ → ℕ
 later g zero s = s
 later g (suc n) s = later g n (along g s)
 
-module _ {graph : Graph} (known : IsKnown graph) where
+module _ {graph : Graph} (known : IsPlaneGraph graph) where
   -- s comes, maybe from outside the numbers of half-edges, to one of the component c
   abbrev ComesTo : ℕ → ℕ → Type 0
   ComesTo c s =

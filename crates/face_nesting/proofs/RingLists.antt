@@ -1,14 +1,13 @@
 -- Lists of rings: where each begins, how many there are, and in which of them a half-edge stands.
-use Rattle.std.proofs.Common.{arith, ◌≡◌, ◌≢◌, inl, inr, ℕ, zero, suc, ◌+◌, ◌<◌, ◌≤◌, List, [], ◌∷◌, ◌++◌, length, refl, sym, ap, subst, ◌∙◌, length-append}
-use Rattle.std.specs.Prelude.{Contains, All, AllPairs, Some, slice_get, flat_map}
-use Rattle.std.specs.List.{AllZip, range_with_len}
+use Rattle.std.proofs.Common.{arith, ◌≡◌, inl, inr, ℕ, zero, suc, ◌+◌, ◌<◌, ◌≤◌, List, [], ◌∷◌, ◌++◌, length, refl, sym, ap, subst, ◌∙◌, length-append}
+use Rattle.std.specs.Prelude.{Contains, Some, slice_get, flat_map}
+use Rattle.std.specs.List.{AllZip}
 use Rattle.std.proofs.lemmas.List.Concat.{flat_map-cons}
-use Rattle.std.proofs.lemmas.List.FromFn.{length-range_with_len, get_or-range_with_len}
 use Rattle.std.proofs.lemmas.List.Elements.{All-contains, Contains-append_left, Contains-append_right, Contains-append_cases}
 use Rattle.std.proofs.lemmas.Option.{none-some, same_Some, slice_get_within}
 use Rattle.nest_base.proofs.Lists.{Contains-none, All-from_contains}
 use Rattle.half_edges.specs.Rotation.{Rotation, IsRotation, along}
-use Rattle.half_edges.proofs.Fewer.{fewer}
+use Rattle.half_edges.proofs.Fewer.{few_below}
 use Rattle.half_edges.proofs.Items.{Contains-from_read}
 use Rattle.face_nesting.specs.Rings.{IsRingFrom, AreRingsOf, OnOneRing, offsets}
 use Rattle.face_nesting.proofs.Zips.{zip_first}
@@ -31,13 +30,6 @@ offsets_more n (first ∷ rings) ring =
     let long : n + length first + length (joined rings ++ ring) ≡ n + length (joined (first ∷ rings) ++ ring) =
     omega (arith, length-append (joined rings) ring, length-append (joined (first ∷ rings)) ring, ap length (joined-cons first rings), length-append first (joined rings)) in
     ap (λ (ns : List ℕ). n ∷ ns) (offsets_more (n + length first) rings ring) ∙ ap (λ m. n ∷ (offsets (n + length first) rings ++ m ∷ [])) long
-
--- lists without repeats of numbers below n are no longer than n
-pub few_below : (n : ℕ) (xs : List ℕ) → All (λ x. x < n) xs → AllPairs (λ x y. x ≢ y) xs → length xs ≤ n
-few_below n xs below once =
-    let long = length-range_with_len 0 n in
-    let less = All-contains (λ y. y < n) xs in
-    omega (arith, long, fewer xs (range_with_len 0 n) once (λ x stands. (x, omega (arith, less x below stands, long), omega (arith, get_or-range_with_len 0 n x x (less x below stands)))))
 
 -- a half-edge of rings stands in one of them
 pub joined_read : (rings : List (List ℕ)) (s : ℕ) → Contains (joined rings) s → (r : ℕ) × (ring : List ℕ) × (slice_get rings r ≡ Some ring) × Contains ring s

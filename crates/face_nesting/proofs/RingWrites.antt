@@ -9,7 +9,7 @@ use Rattle.face_nesting.specs.declared.rings.RingId.{RingId}
 use Rattle.face_nesting.specs.Numbering.{numbers_of, ring_numbers_of}
 use Rattle.face_nesting.specs.Rings.{AreRingsOf}
 use Rattle.face_nesting.proofs.RingFound.{ring_found, first_found}
-use Rattle.face_nesting.proofs.RingLists.{few_below}
+use Rattle.half_edges.proofs.Fewer.{few_below}
 use Rattle.face_nesting.proofs.RingTracing.{IsTracing, traced_on, traced_new}
 
 pub numbers_of-push : (sides : List Side) (s : Side) → numbers_of (sides ++ s ∷ []) ≡ numbers_of sides ++ s.0 ∷ []

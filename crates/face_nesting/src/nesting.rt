@@ -3,7 +3,7 @@ ghost use Rattle.std.specs.Prelude.{◌≡◌, ◌≤◌, ◌<◌, length, slice
 ghost use Rattle.nest_base.specs.declared.numbers.Component.{Component};
 ghost use Rattle.plate_sides.specs.Nesting.{HasMarkSides, SeesOne, AreParents};
 ghost use Rattle.half_edges.specs.Numbers.{half_edges_of};
-ghost use Rattle.face_nesting.specs.Numbering.{numbers_of, outer_face};
+ghost use Rattle.face_nesting.specs.Numbering.{numbers_of, parent_numbers_of, outer_face};
 ghost use Rattle.face_nesting.specs.Nesting.{AreFaces, IsFaceCount, AreOuterRings, ring_at};
 
 use crate::marks::mark_sides;
@@ -103,6 +103,13 @@ impl Faces {
         ensures { slice_get self.now.parents c.0 ≡ Some (option_map (λ (p : Component). p.0) result) }
     {
         self.parent_list[c.0 as usize]
+    }
+
+    /// The parent of each component, by number.
+    pub fn parents(&self) -> &[Option<Component>]
+        ensures { parent_numbers_of result.now ≡ self.now.parents }
+    {
+        &self.parent_list
     }
 
     /// The outer sides of a component, each once, from the mark side on as each goes along to the next.

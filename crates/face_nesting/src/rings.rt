@@ -3,6 +3,7 @@ ghost use Rattle.std.specs.Prelude.{◌≡◌, ◌≤◌, ◌<◌, ◌+◌, ◌�
 ghost use Rattle.half_edges.specs.Numbers.{half_edges_of};
 ghost use Rattle.half_edges.specs.Rotation.{IsRotation};
 ghost use Rattle.half_edges.specs.Graph.{rotation_of};
+ghost use Rattle.half_edges.specs.PlaneGraphs.{IsPlaneGraph};
 ghost use Rattle.face_nesting.specs.Rings.{AreRingsOf, AreTold, AreAllRings, OnOneRing};
 ghost use Rattle.face_nesting.specs.Numbering.{numbers_of, ring_numbers_of};
 
@@ -90,7 +91,7 @@ impl Tracing {
 ///
 /// Takes **O(n)** for n edges. `OutOfMemory` comes for want of memory alone.
 pub fn rings_of(alloc: Global, graph: &PlaneGraph, firsts: &[Side]) -> Result<Rings, OutOfMemory>
-    requires few { length graph.now.edges ≤ 2000000 }
+    requires plane_graph { IsPlaneGraph graph.now }
     requires within { All (λ s. s.0 < length (half_edges_of graph.now.edges)) firsts.now }
     requires apart { AllPairs (λ s t. OnOneRing (rotation_of graph.now) s.0 t.0 → ⊥) firsts.now }
     ensures { IfOk result (λ rings. AreAllRings (rotation_of graph.now) (numbers_of firsts.now) (ring_numbers_of rings.ring_of.items)

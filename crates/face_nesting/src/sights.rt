@@ -1,14 +1,11 @@
 //! What the mark vertices of components see.
-ghost use Rattle.std.specs.Prelude.{◌≡◌, ◌≢◌, ◌≤◌, List, length, slice_get, Some, All, AllPairs, IfOk, IfSome, IfNone};
+ghost use Rattle.std.specs.Prelude.{◌≡◌, ◌≤◌, List, length, slice_get, Some, All, IfOk, IfSome, IfNone};
 ghost use Rattle.nest_base.specs.Plane.{HalfEdge};
-ghost use Rattle.nest_base.specs.Order.{IsBefore};
 ghost use Rattle.nest_base.specs.Sight.{GoesDown};
 ghost use Rattle.nest_base.specs.Range.{IsWithin, IsEdgeWithin};
-ghost use Rattle.plate_edges.specs.Points.{EdgesMeetAtEndsOnly};
 ghost use Rattle.plate_sides.specs.Links.{IsSeen, SeesNone};
 ghost use Rattle.half_edges.specs.Numbers.{IsSide};
-ghost use Rattle.half_edges.specs.Rotation.{IsRotation};
-ghost use Rattle.half_edges.specs.Graph.{GoesAlong, rotation_of};
+ghost use Rattle.half_edges.specs.PlaneGraphs.{IsPlaneGraph};
 ghost use Rattle.face_nesting.specs.Numbering.{sight_numbers_of};
 ghost use Rattle.face_nesting.specs.Sights.{AreSights};
 
@@ -19,13 +16,7 @@ use std::alloc::Global;
 /// The edges of a graph, in its order.
 pub fn edges_of(alloc: Global, graph: &PlaneGraph) -> Result<Vec<Edge>, OutOfMemory>
     ensures edges { IfOk result (λ edges. edges.items ≡ graph.now.edges) }
-    ensures few { IfOk result (λ _. length graph.now.edges ≤ 2000000) }
-    ensures ends_in_order { IfOk result (λ _. All (λ e. IsBefore e.low e.high) graph.now.edges) }
-    ensures within { IfOk result (λ _. All (IsEdgeWithin 2000000000) graph.now.edges) }
-    ensures each_once { IfOk result (λ _. AllPairs (λ e f. e ≢ f) graph.now.edges) }
-    ensures apart { IfOk result (λ _. AllPairs EdgesMeetAtEndsOnly graph.now.edges) }
-    ensures rotation { IfOk result (λ _. IsRotation (rotation_of graph.now)) }
-    ensures along { IfOk result (λ _. GoesAlong graph.now) }
+    ensures plane_graph { IfOk result (λ _. IsPlaneGraph graph.now) }
 {
     let mut edges = Vec::new(alloc);
     for k in 0..graph.edge_count() {
@@ -86,8 +77,7 @@ pub fn sights_of(
     edges: &[Edge],
 ) -> Result<Vec<Option<Side>>, OutOfMemory>
     requires edges { edges.now ≡ graph.now.edges }
-    requires few { length edges.now ≤ 2000000 }
-    requires within { All (IsEdgeWithin 2000000000) edges.now }
+    requires plane_graph { IsPlaneGraph graph.now }
     ensures { IfOk result (λ sights. AreSights graph.now.edges graph.now.marks (sight_numbers_of sights.items)) }
 {
     let mut sights = Vec::new(alloc);

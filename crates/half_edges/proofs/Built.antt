@@ -41,10 +41,10 @@ module _ (edges : List Edge) (all : List ℕ) (are : AreAllRound edges all) wher
       let number = one_number (2 * i) (2 * j) (forth e) (side_low edges i e at_i) (subst (λ d. IsSide edges (2 * j) (forth d)) (sym same) (side_low edges j f at_j)) in
       omega (arith, number))
 
-pub graph_of_lists : (edges : List Edge) (vertices : List Point) (origins all starts positions parts : List ℕ) (marks : List Point) →
+pub graph_of_lists : (edges : List Edge) (vertices : List Point) (origins all starts positions parts burnt : List ℕ) (marks : List Point) →
     length edges ≤ 2000000 → AreOrdered edges → All (IsEdgeWithin 2000000000) edges → AllPairs EdgesMeetAtEndsOnly edges → AreAllRound edges all → IsLayout edges vertices origins all starts → ArePositions edges positions → AreParts edges vertices parts marks →
-    IsGraph (record { edges = edges_between vertices origins; vertices = vertices; marks = marks; origins = origins; positions = positions; all = all; starts = starts; parts = parts })
-graph_of_lists edges vertices origins all starts positions parts marks few ordered within apart are layout are_positions are_parts =
-    subst (λ (es : List Edge). IsGraph (record { edges = es; vertices = vertices; marks = marks; origins = origins; positions = positions; all = all; starts = starts; parts = parts }))
+    IsGraph (record { edges = edges_between vertices origins; vertices = vertices; marks = marks; origins = origins; positions = positions; all = all; starts = starts; parts = parts; burnt = burnt })
+graph_of_lists edges vertices origins all starts positions parts burnt marks few ordered within apart are layout are_positions are_parts =
+    subst (λ (es : List Edge). IsGraph (record { edges = es; vertices = vertices; marks = marks; origins = origins; positions = positions; all = all; starts = starts; parts = parts; burnt = burnt }))
     (sym (edges_of_layout edges vertices origins all starts layout))
     (record { few = few; ends_in_order = ordered; each_once = edges_each_once edges all are; within = within; apart = apart; layout = layout; are_positions = are_positions; are_parts = are_parts })

@@ -135,15 +135,18 @@ IsSideBefore-is_strict = record {
   total = λ g h apart. IsEdgeBefore-total (as_edge g) (as_edge h) (λ same. apart (ap forth same));
 }
 
--- the degree of a vertex is the length of its ring, where no edge stands twice
+-- the degree of a vertex is the number of half-edges that leave it, where no edge stands twice
+pub degree_of_sides : (edges : List Edge) (v : Point) (sides : List HalfEdge) → All (λ (e : Edge). IsBefore e.low e.high) edges → AllPairs (λ (e : Edge) (f : Edge). e ≢ f) edges →
+    Enumerates (Leaves edges v) sides → HasDegree edges v (length sides)
+degree_of_sides edges v sides ahead apart all_sides =
+    let all = all_leaving v edges ahead apart in
+    (all.ending, all.selected, all.as_many ∙ same_number IsSideBefore IsSideBefore-is_strict (Leaves edges v) all.sides sides all.all_sides all_sides)
+
+-- and the length of its ring
 pub degree_of_ring : (edges : List Edge) (v : Point) (ring : List HalfEdge) → All (λ (e : Edge). IsBefore e.low e.high) edges → AllPairs (λ (e : Edge) (f : Edge). e ≢ f) edges →
     IsRing edges v ring → HasDegree edges v (length ring)
 degree_of_ring edges v ring ahead apart is =
-    let all = all_leaving v edges ahead apart in
     let once : AllPairs (λ x y. x ≢ y) ring = AllPairs-from_reads (λ x y. x ≢ y) ring (λ i j g h less at_g at_h same.
     let before = AllPairs-reads IsBeforeRound ring i j g h is.in_order less at_g at_h in
-    let loop : IsBeforeRound h h = subst (λ x. IsBeforeRound x h) same before in IsBeforeFromWest-asym _ _ loop loop) in (
-      all.ending,
-      all.selected,
-      all.as_many ∙ same_number IsSideBefore IsSideBefore-is_strict (Leaves edges v) all.sides ring all.all_sides (record { each_once = once; are_all = is.are_all }),
-    )
+    let loop : IsBeforeRound h h = subst (λ x. IsBeforeRound x h) same before in IsBeforeFromWest-asym _ _ loop loop) in
+    degree_of_sides edges v ring ahead apart (record { each_once = once; are_all = is.are_all })

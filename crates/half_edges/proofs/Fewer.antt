@@ -1,39 +1,15 @@
--- Lists without repeats are no longer than lists that hold their elements.
-use Rattle.std.proofs.Common.{arith, ◌≡◌, ◌≢◌, ◌≤◌, ◌+◌, ◌⊎◌, inl, inr, List, [], ◌∷◌, length, map, sym, subst, ◌∙◌}
-use Rattle.std.specs.Prelude.{Contains, AllPairs}
+-- Lists without repeats are no longer than lists that hold images of their elements, or numbers below a bound.
+use Rattle.std.proofs.Common.{arith, ◌≡◌, ◌≢◌, ◌≤◌, ◌<◌, ℕ, List, length, map, subst}
+use Rattle.std.specs.Prelude.{Contains, All, AllPairs}
+use Rattle.std.specs.List.{range_with_len}
 use Rattle.std.proofs.lemmas.List.{length-map}
-use Rattle.nest_base.proofs.Lists.{Contains-head, Contains-later, Contains-cases, Contains-none, AllPairs-to_later, AllPairs-rest}
+use Rattle.std.proofs.lemmas.List.FromFn.{length-range_with_len, get_or-range_with_len}
+use Rattle.std.proofs.lemmas.List.Elements.{All-contains}
+use Rattle.nest_base.proofs.Fewer.{fewer}
 use Rattle.plate_edges.proofs.Lists.{AllPairs-map, origin_in}
 use Rattle.half_edges.proofs.Items.{Contains-from_read, AllPairs-reads, AllPairs-from_reads}
 
--- what is left of a list without one of its elements
-abbrev IsWithout : {X : Type 0} → List X → X → List X → Type 0
-IsWithout {X} ys y zs = (length ys ≡ length zs + 1) × ((x : X) → Contains ys x → (y ≡ x) ⊎ Contains zs x)
-
-without : {X : Type 0} (ys : List X) (y : X) → Contains ys y → (zs : List X) × IsWithout ys y zs
-without [] y stands = absurd (Contains-none y stands)
-without {X} (z ∷ ys) y stands = elim (Contains-cases z y ys stands) [
-  | inl same ↦ (ys, (omega arith, λ x c. elim (Contains-cases z x ys c) [ inl e ↦ inl (sym same ∙ e) | inr m ↦ inr m ]))
-  | inr later ↦
-      let rest = without ys y later in
-      let split : (x : X) → Contains (z ∷ ys) x → (y ≡ x) ⊎ Contains (z ∷ rest.0) x = λ x c. elim (Contains-cases z x ys c) [
-        | inl e ↦ inr (subst (Contains (z ∷ rest.0)) e (Contains-head z rest.0))
-        | inr m ↦ elim (rest.1.1 x m) [ inl e ↦ inl e | inr n ↦ inr (Contains-later z x rest.0 n) ]
-      ] in
-      (z ∷ rest.0, (omega (arith, rest.1.0), split))
-]
-
-pub fewer : {X : Type 0} (xs ys : List X) → AllPairs (λ x y. x ≢ y) xs → ((x : X) → Contains xs x → Contains ys x) → length xs ≤ length ys
-fewer [] ys apart held = omega arith
-fewer {X} (x ∷ xs) ys apart held =
-    let rest = without ys x (held x (Contains-head x xs)) in
-    let kept : (z : X) → Contains xs z → Contains rest.0 z = λ z c. elim (rest.1.1 z (held z (Contains-later x z xs c))) [
-      | inl same ↦ absurd (AllPairs-to_later (λ a b. a ≢ b) x z xs apart c same)
-      | inr m ↦ m
-    ] in
-    omega (arith, rest.1.0, fewer xs rest.0 (AllPairs-rest (λ a b. a ≢ b) x xs apart) kept)
-
--- so are lists whose elements are told apart by what a map makes of them
+-- where elements are told apart by what a map makes of them
 pub fewer-map : {X Y : Type 0} (f : X → Y) (xs : List X) (ys : List Y) → AllPairs (λ x y. x ≢ y) xs →
     ((x y : X) → Contains xs x → Contains xs y → f x ≡ f y → x ≡ y) → ((x : X) → Contains xs x → Contains ys (f x)) → length xs ≤ length ys
 fewer-map {X} {Y} f xs ys apart one held =
@@ -42,3 +18,10 @@ fewer-map {X} {Y} f xs ys apart one held =
     (λ i j x y less at_x at_y same. AllPairs-reads (λ a b. a ≢ b) xs i j x y apart less at_x at_y (one x y (Contains-from_read xs i x at_x) (Contains-from_read xs j y at_y) same))) in
     let kept : (y : Y) → Contains (map f xs) y → Contains ys y = λ y c. let x = origin_in f xs y c in subst (Contains ys) x.2 (held x.0 x.1) in
     omega (arith, fewer (map f xs) ys images kept, length-map xs f)
+
+-- lists without repeats of numbers below n are no longer than n
+pub few_below : (n : ℕ) (xs : List ℕ) → All (λ x. x < n) xs → AllPairs (λ x y. x ≢ y) xs → length xs ≤ n
+few_below n xs below once =
+    let long = length-range_with_len 0 n in
+    let less = All-contains (λ y. y < n) xs in
+    omega (arith, long, fewer xs (range_with_len 0 n) once (λ x stands. (x, omega (arith, less x below stands, long), omega (arith, get_or-range_with_len 0 n x x (less x below stands)))))

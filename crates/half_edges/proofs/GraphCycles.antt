@@ -1,67 +1,22 @@
 -- The half-edges of a graph stand in cycles, by number.
-use Rattle.std.proofs.Common.{arith, ◌≡◌, ◌≢◌, ℕ, ◌+◌, ◌<◌, inl, inr, List, Some, length, slice_get, get_or, refl, sym, ap, subst, ◌∙◌}
-use Rattle.std.specs.Prelude.{AllPairs, slice_index}
-use Rattle.std.proofs.lemmas.Bool.{cases_order}
+use Rattle.std.proofs.Common.{arith, ◌≡◌, ℕ, ◌+◌, ◌<◌, List, Some, length, slice_get, get_or, sym, ap, subst, ◌∙◌}
+use Rattle.std.specs.Prelude.{slice_index}
 use Rattle.std.proofs.lemmas.Option.{slice_get_within, get_or_from_slice_get, slice_get-get_or}
 use Rattle.std.proofs.lemmas.List.{get_or_default}
-use Rattle.std.proofs.lemmas.List.Elements.{All-contains}
 use Rattle.nest_base.specs.declared.places.Point.{Point}
-use Rattle.nest_base.specs.declared.places.Edge.{Edge}
-use Rattle.nest_base.specs.Plane.{HalfEdge, twin}
-use Rattle.nest_base.specs.Order.{IsBefore}
-use Rattle.nest_base.proofs.Orders.{IsBefore-irrefl}
-use Rattle.plate_sides.specs.Sides.{forth, IsHalfEdgeOf}
-use Rattle.plate_sides.proofs.HalfEdges.{one_edge}
+use Rattle.nest_base.specs.Plane.{HalfEdge}
 use Rattle.half_edges.specs.Numbers.{half_edges_of, IsSide}
 use Rattle.half_edges.specs.Rings.{IsBeforeRound, IsRing}
 use Rattle.half_edges.specs.Graph.{Graph, IsGraph, origin_of, place_of, degree_of, side_in}
-use Rattle.half_edges.proofs.Items.{read_below, one_read, Contains-from_read, AllPairs-reads}
-use Rattle.half_edges.proofs.Numbers.{side_of, IsSideOf}
+use Rattle.half_edges.proofs.Items.{read_below, one_read, Contains-from_read}
 use Rattle.half_edges.proofs.Neighbours.{one_number as vertex_number}
 use Rattle.half_edges.proofs.Rounds.{IsBeforeFromWest-asym, one_ring}
 use Rattle.half_edges.proofs.GraphReads.{ring_of, block_long, place_within, side_in_ring, first_in_ring, position_within, position_read}
 use Rattle.half_edges.proofs.Cycles.{InCycles}
-
--- what has an order that nothing has with itself stands at one place
-pub one_place : {X : Type 0} (R : X → X → Type 0) (xs : List X) (i j : ℕ) (x : X) → ((x : X) → R x x → ⊥) → AllPairs R xs →
-    slice_get xs i ≡ Some x → slice_get xs j ≡ Some x → i ≡ j
-one_place R xs i j x irrefl pairs at_i at_j = elim (cases_order i j) [
-  | inl same ↦ same
-  | inr (inl less) ↦ absurd (irrefl x (AllPairs-reads R xs i j x x pairs less at_i at_j))
-  | inr (inr more) ↦ absurd (irrefl x (AllPairs-reads R xs j i x x pairs more at_j at_i))
-]
-
--- a half-edge with a number of an edge belongs to it
-half_of_number : (edges : List Edge) (s k : ℕ) (h : HalfEdge) (e : Edge) → IsSideOf edges s h k e → IsHalfEdgeOf e h
-half_of_number edges s k h e (at, inl (number, is)) = inl is
-half_of_number edges s k h e (at, inr (number, is)) = inr is
-
--- the two half-edges of an edge differ
-not_its_twin : (e : Edge) → IsBefore e.low e.high → forth e ≡ twin (forth e) → ⊥
-not_its_twin e ordered same = IsBefore-irrefl e.low e.high ordered (ap (λ (h : HalfEdge). h.from) same)
-
-one_of_two : (edges : List Edge) (s t k : ℕ) (h : HalfEdge) (e : Edge) → IsBefore e.low e.high → IsSideOf edges s h k e → IsSideOf edges t h k e → s ≡ t
-one_of_two edges s t k h e ordered (at, inl p) (also, inl q) = p.0 ∙ sym q.0
-one_of_two edges s t k h e ordered (at, inl p) (also, inr q) = absurd (not_its_twin e ordered (sym p.1 ∙ q.1))
-one_of_two edges s t k h e ordered (at, inr p) (also, inl q) = absurd (not_its_twin e ordered (sym q.1 ∙ p.1))
-one_of_two edges s t k h e ordered (at, inr p) (also, inr q) = p.0 ∙ sym q.0
+use Rattle.half_edges.proofs.SideNumbers.{one_place, one_number}
 
 module _ {graph : Graph} (known : IsGraph graph) where
-  ordered_at : (k : ℕ) (e : Edge) → slice_get graph.edges k ≡ Some e → IsBefore e.low e.high
-  ordered_at k e at = All-contains (λ (f : Edge). IsBefore f.low f.high) graph.edges e known.ends_in_order (Contains-from_read graph.edges k e at)
-
-  -- a half-edge has one number
-  pub one_number : (s t : ℕ) (h : HalfEdge) → IsSide graph.edges s h → IsSide graph.edges t h → s ≡ t
-  one_number s t h is_s is_t = of (side_of graph.edges s h is_s) (side_of graph.edges t h is_t)
-    where
-      of : (k : ℕ) × (e : Edge) × IsSideOf graph.edges s h k e → (k : ℕ) × (e : Edge) × IsSideOf graph.edges t h k e → s ≡ t
-      of (k, e, is) (j, f, also) =
-          let one = one_edge e f h (ordered_at k e is.0) (ordered_at j f also.0) (half_of_number graph.edges s k h e is) (half_of_number graph.edges t j h f also) in
-          let same : k ≡ j = one_place (λ (a b : Edge). a ≢ b) graph.edges k j e (λ a other. other refl) known.each_once is.0 (also.0 ∙ ap Some (sym one)) in
-          one_of_two graph.edges s t k h e (ordered_at k e is.0) is
-          (subst (λ (d : Edge). IsSideOf graph.edges t h k d) (sym one) (subst (λ m. IsSideOf graph.edges t h m f) (sym same) also))
-
-  -- a vertex too
+  -- a vertex has one number
   pub one_vertex : (u v : ℕ) (p : Point) → slice_get graph.vertices u ≡ Some p → slice_get graph.vertices v ≡ Some p → u ≡ v
   one_vertex u v p at_u at_v = vertex_number graph.edges graph.vertices u v p known.layout.are_vertices at_u at_v
 
@@ -166,7 +121,7 @@ module _ {graph : Graph} (known : IsGraph graph) where
   pub half_edges_in_cycles : InCycles (length (half_edges_of graph.edges)) (origin_of graph) (place_of graph) (degree_of graph) (side_in graph)
   half_edges_in_cycles = record {
     place_below = λ s below. let at = read s below in omega (arith, at.long, slice_get_within at.ring (place_of graph s) at.half at.stands);
-    is_member = λ s below. let at = read s below in one_number _ s at.half (side_there s at (place_of graph s) at.half at.stands) at.is_side;
+    is_member = λ s below. let at = read s below in one_number graph.edges known.ends_in_order known.each_once _ s at.half (side_there s at (place_of graph s) at.half at.stands) at.is_side;
     member_below = λ s k below. member_within s (read s below) k;
     same_origin = λ s k below. member_origin s (read s below) k;
     its_place = λ s k below. member_place s (read s below) k;

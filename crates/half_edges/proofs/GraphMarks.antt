@@ -9,7 +9,7 @@ use Rattle.plate_sides.specs.Components.{SameComponent, IsMark}
 use Rattle.half_edges.specs.Graph.{Graph, IsGraph, part_of}
 use Rattle.half_edges.proofs.Items.{Contains-from_read, read_from_Contains}
 use Rattle.half_edges.proofs.FirstMarks.{one_mark}
-use Rattle.half_edges.proofs.GraphCycles.{one_place}
+use Rattle.half_edges.proofs.SideNumbers.{one_place}
 
 module _ {graph : Graph} (known : IsGraph graph) where
   pub mark_at : (c : ℕ) (m : Point) → slice_get graph.marks c ≡ Some m → IsMark graph.edges m

@@ -14,7 +14,7 @@ use Rattle.half_edges.specs.Layouts.{AreVertices}
 use Rattle.nest_base.proofs.Orders.{IsMarkedBefore-irrefl}
 use Rattle.half_edges.proofs.Items.{Contains-from_read}
 use Rattle.half_edges.proofs.Numbers.{length-half_edges, side_from_half_edge}
-use Rattle.half_edges.proofs.Fewer.{fewer}
+use Rattle.nest_base.proofs.Fewer.{fewer}
 
 -- places in the order of mark vertices differ
 marked_apart : (places : List Point) → AllPairs IsMarkedBefore places → AllPairs (λ p q. p ≢ q) places

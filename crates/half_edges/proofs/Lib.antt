@@ -11,6 +11,8 @@ pub mod RingNumbers
 pub mod EdgesBetween
 pub mod NextRound
 pub mod Fewer
+pub mod BurntEdges
+pub mod BurntGraphs
 pub mod GraphSizes
 pub mod GraphReads
 pub mod Placed
@@ -18,10 +20,12 @@ pub mod MarkPlaces
 pub mod Built
 pub mod Cycles
 pub mod Totals
+pub mod SideNumbers
 pub mod GraphCycles
 pub mod GraphMarks
 pub mod RotationLaws
 pub mod RoundOfGraph
+pub mod PlaneGraphs
 pub mod GraphAlongs
 pub mod RingRuns
 pub mod LaidOut

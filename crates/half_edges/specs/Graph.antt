@@ -26,6 +26,8 @@ pub record Graph : Type 0 where
   pub starts : List ℕ
   -- by number of a vertex: the number of its component
   pub parts : List ℕ
+  -- the half-edges whose edges were burnt, in the order of burning
+  pub burnt : List ℕ
 
 -- the place of the vertex with this number
 abbrev pub vertex_at : List Point → ℕ → Point

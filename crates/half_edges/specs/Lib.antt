@@ -8,3 +8,6 @@ pub mod Spokes
 pub mod Graph
 pub mod Floods
 pub mod Views
+pub mod Burns
+pub mod BurnsView
+pub mod PlaneGraphs

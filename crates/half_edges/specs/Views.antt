@@ -1,7 +1,7 @@
--- What contracts see of a plane graph.
-use Rattle.std.specs.Prelude.{map}
+-- What contracts see of a plane graph, and what holds of its fields.
+use Rattle.std.specs.Prelude.{◌≡◌, length, map}
 use Rattle.half_edges.specs.declared.graph.PlaneGraph.TheInside.{Inside}
-use Rattle.half_edges.specs.Graph.{Graph, edges_between}
+use Rattle.half_edges.specs.Graph.{Graph, IsGraph, edges_between}
 
 abbrev pub graph_view : Inside → Graph
 graph_view g = record {
@@ -13,4 +13,10 @@ graph_view g = record {
   all = map (λ s. s.0) g.all.items;
   starts = g.layout.starts.items;
   parts = map (λ c. c.0) g.parts.of_vertex.items;
+  burnt = g.burns.burnt;
 }
+
+pub record HoldsGraph (g : Inside) : Type 0 where
+  pub graph : IsGraph (graph_view g)
+  -- each edge can be burnt
+  pub edges : g.burns.edges ≡ length (graph_view g).edges

@@ -1,5 +1,5 @@
 //! The plane graph, and what is read of it.
-ghost use Rattle.std.specs.Prelude.{◌≡◌, ◌≢◌, ◌≤◌, ◌<◌, length, slice_get, Some, All, AllPairs, Contains, List, IfOk, IfSome, IfNone};
+ghost use Rattle.std.specs.Prelude.{◌≡◌, ◌≢◌, ◌≤◌, ◌<◌, [], ◌∷◌, ◌++◌, length, take, slice_get, Some, All, AllPairs, Contains, List, IfOk, IfSome, IfNone, IsTrue, ◌↔◌};
 ghost use Rattle.nest_base.specs.Order.{IsBefore, IsMarkedBefore};
 ghost use Rattle.nest_base.specs.Range.{IsEdgeWithin};
 ghost use Rattle.nest_base.specs.Plane.{HalfEdge, twin};
@@ -12,9 +12,12 @@ ghost use Rattle.plate_covers.specs.Odd.{HasDegree};
 ghost use Rattle.half_edges.specs.Numbers.{half_edges_of, IsSide, twin_number};
 ghost use Rattle.half_edges.specs.Rings.{IsRing};
 ghost use Rattle.half_edges.specs.Layouts.{AreVertices};
-ghost use Rattle.half_edges.specs.Rotation.{IsRotation, Divides, to as end_in, along as along_in, degree as degree_in};
-ghost use Rattle.half_edges.specs.Graph.{GoesAlong, LieInParts, rotation_of, origin_of, place_of, part_of, degree_of, side_in, ccw_of, cw_of};
+ghost use Rattle.half_edges.specs.Rotation.{to as end_in, along as along_in, degree as degree_in};
+ghost use Rattle.half_edges.specs.Graph.{rotation_of, origin_of, place_of, part_of, degree_of, side_in, ccw_of, cw_of};
+ghost use Rattle.half_edges.specs.PlaneGraphs.{IsPlaneGraph};
+ghost use Rattle.half_edges.specs.Burns.{AreOfTwoEdges, IsBurnt, with_burnt};
 
+use crate::burns::Burns;
 use crate::layout::{Layout, layout_of};
 use crate::mark_order::MarkOrder;
 use crate::parts::{Parts, parts_of};
@@ -25,29 +28,30 @@ use std::alloc::Global;
 use std::marker::Model;
 
 /// The graph of the edges of a drawing. Contracts see its edges in their order, its vertices in the order of mark vertices, and the
-/// mark vertex of each component; and the lists of numbers in which its half-edges stand, from which `rotation_of` makes a rotation
-/// system.
+/// mark vertex of each component; the lists of numbers in which its half-edges stand, from which `rotation_of` makes a rotation
+/// system; and the half-edges whose edges were burnt, in order.
 #[derive(Drop)]
 pub struct PlaneGraph {
     layout: Layout,
     /// All half-edges, vertex by vertex, and round each counterclockwise from west.
     all: Vec<Side>,
     parts: Parts,
+    burns: Burns,
 }
 
 impl Model for PlaneGraph {
-    ghost use Rattle.half_edges.specs.Graph.{Graph, IsGraph};
-    ghost use Rattle.half_edges.specs.Views.{graph_view};
+    ghost use Rattle.half_edges.specs.Graph.{Graph};
+    ghost use Rattle.half_edges.specs.Views.{graph_view, HoldsGraph};
 
     ghost Value = { Graph };
 
     ghost view = { graph_view };
 
-    ghost invariant = { λ g. IsGraph (graph_view g) };
+    ghost invariant = { HoldsGraph };
 }
 
 impl PlaneGraph {
-    /// The graph of these edges: the edge at place k has the sides 2k, from low to high, and 2k + 1, from high to low.
+    /// The graph of these edges: the edge at place k has the sides 2k, from low to high, and 2k + 1, from high to low. None is burnt.
     ///
     /// Takes **O(n log n)** for n edges. `OutOfMemory` comes for want of memory alone.
     pub fn build(alloc: Global, edges: &Edges) -> Result<PlaneGraph, OutOfMemory>
@@ -58,32 +62,31 @@ impl PlaneGraph {
         ensures edges { IfOk result (λ graph. graph.edges ≡ edges.now) }
         ensures vertices { IfOk result (λ graph. AreVertices edges.now graph.vertices) }
         ensures marks { IfOk result (λ graph. AreMarks edges.now graph.marks) }
+        ensures burnt { IfOk result (λ graph. graph.burnt ≡ []) }
     {
         let all = all_round(alloc, edges.as_slice())?;
         let layout = layout_of(alloc, edges.as_slice(), &all)?;
         let parts = parts_of(alloc, &layout, &all)?;
-        Ok(PlaneGraph { layout, all, parts })
+        let burns = Burns::none(alloc, edges.as_slice().len())?;
+        Ok(PlaneGraph {
+            layout,
+            all,
+            parts,
+            burns,
+        })
     }
 
-    /// How many edges there are. By number their half-edges are a rotation system.
+    /// How many edges there are.
     pub fn edge_count(&self) -> u32
         ensures count { result ≡ length self.now.edges }
-        ensures few { length self.now.edges ≤ 2000000 }
-        ensures ends_in_order { All (λ e. IsBefore e.low e.high) self.now.edges }
-        ensures each_once { AllPairs (λ e f. e ≢ f) self.now.edges }
-        ensures within { All (IsEdgeWithin 2000000000) self.now.edges }
-        ensures apart { AllPairs EdgesMeetAtEndsOnly self.now.edges }
-        ensures rotation { IsRotation (rotation_of self.now) }
-        ensures along { GoesAlong self.now }
+        ensures plane_graph { IsPlaneGraph self.now }
     {
         self.layout.origins.len() as u32 / 2
     }
 
-    /// How many half-edges there are, two for each edge. By number they are a rotation system.
+    /// How many half-edges there are, two for each edge.
     pub fn side_count(&self) -> u32
         ensures count { result ≡ length (half_edges_of self.now.edges) }
-        ensures rotation { IsRotation (rotation_of self.now) }
-        ensures along { GoesAlong self.now }
     {
         self.layout.origins.len() as u32
     }
@@ -97,13 +100,11 @@ impl PlaneGraph {
         self.layout.places.len() as u32
     }
 
-    /// How many components there are. By number, the two ends of an edge belong to one.
+    /// How many components there are.
     pub fn component_count(&self) -> u32
         ensures count { result ≡ length self.now.marks }
         ensures few { length self.now.marks ≤ 4000000 }
         ensures marks { AreMarks self.now.edges self.now.marks }
-        ensures divides { Divides (rotation_of self.now) (part_of self.now) }
-        ensures parts { LieInParts self.now }
     {
         self.parts.marks.len() as u32
     }
@@ -277,6 +278,41 @@ impl PlaneGraph {
             }
         }
         None
+    }
+
+    /// How many edges are burnt: what `unburn_to` takes to come back here. No edge is burnt twice.
+    pub fn mark(&self) -> u32
+        ensures count { result ≡ length self.now.burnt }
+        ensures burnt_few { length self.now.burnt ≤ length self.now.edges }
+        ensures burnt_within { All (λ s. s < length (half_edges_of self.now.edges)) self.now.burnt }
+        ensures burnt_once { AllPairs AreOfTwoEdges self.now.burnt }
+    {
+        self.burns.mark() as u32
+    }
+
+    /// Whether the edge of a half-edge is burnt.
+    pub fn is_burnt(&self, s: Side) -> bool
+        requires { s.0 < length (half_edges_of self.now.edges) }
+        ensures { IsTrue result ↔ IsBurnt self.now s.0 }
+    {
+        self.burns.is_burnt(s)
+    }
+
+    /// Burns the edge of a half-edge. Takes no memory: `build` has kept room for all.
+    pub fn burn(&mut self, s: Side)
+        requires within { s.0 < length (half_edges_of self.old.edges) }
+        requires unburnt { IsBurnt self.old s.0 → ⊥ }
+        ensures { self.new ≡ with_burnt self.old (self.old.burnt ++ s.0 ∷ []) }
+    {
+        self.burns.burn(s);
+    }
+
+    /// Unburns the latest burnt edges, last first, until `mark` are left. Takes **O(k)** for k edges, and no memory.
+    pub fn unburn_to(&mut self, mark: u32)
+        requires { mark ≤ length self.old.burnt }
+        ensures { self.new ≡ with_burnt self.old (take mark self.old.burnt) }
+    {
+        self.burns.unburn_to(mark as usize);
     }
 }
 

@@ -2,7 +2,8 @@
 //!
 //! A half-edge is an edge followed one way; the two of an edge are twins. Round a vertex the half-edges that leave it stand in a
 //! rotation, counterclockwise from west, and the face to the left of a half-edge goes on along the next one clockwise after its
-//! twin (as in a doubly connected edge list). Above this layer no coordinate is compared any more.
+//! twin (as in a doubly connected edge list). Above this layer no coordinate is compared any more. Edges burn in order, each once, and the
+//! latest can be unburnt, so that a walk can be taken back.
 //!
 //! A graph of n edges is built in **O(n log n)**, by sorting; its readers take **O(1)** and no memory, but for those that find a
 //! vertex, **O(log n)**, or a half-edge, which looks through one rotation.
@@ -10,6 +11,9 @@
 //! It stands on the order of directions of `nest_base`, and on the definitions of `plate_sides`.
 #![tactic(auto)]
 
+#[cfg(test)]
+mod burn_tests;
+mod burns;
 #[cfg(test)]
 mod component_tests;
 pub mod graph;

@@ -25,7 +25,7 @@ loop-first-init c =
     }
 
 pub trace-requires-clause-few : goal.trace-requires-clause-few
-trace-requires-clause-few c = omega (arith, c.requires.few, length-half_edges c.args.graph.now.edges)
+trace-requires-clause-few c = omega (arith, c.requires.plane_graph.few, length-half_edges c.args.graph.now.edges)
 
 pub trace-requires-clause-untraced : goal.trace-requires-clause-untraced
 trace-requires-clause-untraced c =
@@ -58,7 +58,7 @@ loop-s-init c =
     }
 
 pub trace-requires-then-not-index-clause-few : goal.trace-requires-then-not-index-clause-few
-trace-requires-then-not-index-clause-few c = omega (arith, c.requires.few, length-half_edges c.args.graph.now.edges)
+trace-requires-then-not-index-clause-few c = omega (arith, c.requires.plane_graph.few, length-half_edges c.args.graph.now.edges)
 
 pub trace-requires-then-not-index-clause-untraced : goal.trace-requires-then-not-index-clause-untraced
 trace-requires-then-not-index-clause-untraced c =

@@ -1,4 +1,4 @@
-use Rattle.std.proofs.Common.{arith}
+use Rattle.std.proofs.Common.{arith, length, sym, ap, ◌∙◌}
 use Rattle.half_edges.proofs.GraphSizes.{length-vertices-le}
 use Rattle.half_edges.proofs.Built.{edges_of_layout, graph_of_lists}
 use Rattle.half_edges.proofs.graph.PlaneGraph.build.Goals as goal
@@ -17,7 +17,8 @@ invariant_of-result c =
     let layout = rw (c.as_slice-2.ensures, c.deref.ensures.value) at c.in_ok-layout.ensures.layout in
     let positions = rw c.as_slice-2.ensures at c.in_ok-layout.ensures.positions in
     let parts = rw c.deref-2.ensures.value at c.in_ok-parts.ensures in
-    graph_of_lists c.args.edges.now _ _ _ _ _ _ _ c.requires.few c.requires.ends_in_order c.requires.within c.requires.apart all layout positions (parts c.args.edges.now layout)
+    let graph = graph_of_lists c.args.edges.now _ _ _ _ _ _ _ _ c.requires.few c.requires.ends_in_order c.requires.within c.requires.apart all layout positions (parts c.args.edges.now layout) in
+    record { graph = graph; edges = c.in_ok-burns.ensures.edges ∙ ap length (c.as_slice-3.ensures ∙ sym (edges_of_layout c.args.edges.now _ _ _ _ layout)) }
 
 pub returns-clause-edges : goal.returns-clause-edges
 returns-clause-edges c = edges_of_layout c.args.edges.now _ _ _ _ (rw (c.as_slice-2.ensures, c.deref.ensures.value) at c.in_ok-layout.ensures.layout)

@@ -9,7 +9,7 @@ returns-clause-within c =
     let below = rw (← c.self.view_is) at c.requires in
     let parts = c.self.inside.parts.of_vertex.items in
     let number : Component → ℕ = λ k. k.0 in
-    let p = vertex_at_number c.self.invariant c.args.v.0 below in
+    let p = vertex_at_number c.self.invariant.graph c.args.v.0 below in
     let read = ap number c.index.ensures ∙ sym (get_or-map number parts c.args.v.0 c.index.result.now 0
-    (omega (arith, below, length-map parts number, c.self.invariant.are_parts.as_many))) in
-    rw (← c.self.view_is) (omega (arith, read, part_within c.self.invariant c.args.v.0 p.0 p.1))
+    (omega (arith, below, length-map parts number, c.self.invariant.graph.are_parts.as_many))) in
+    rw (← c.self.view_is) (omega (arith, read, part_within c.self.invariant.graph c.args.v.0 p.0 p.1))

@@ -9,22 +9,22 @@ use Rattle.half_edges.proofs.graph.PlaneGraph.degree.Goals as goal
 
 pub overflow_sub-result : goal.overflow_sub-result
 overflow_sub-result c =
-    let p = vertex_at_number c.self.invariant c.args.v.0 (rw (← c.self.view_is) at c.requires) in
-    first_within c.self.invariant c.args.v.0 c.index-2.result.now c.index.result.now p.0 p.1 c.index-2.ensures c.index.ensures
+    let p = vertex_at_number c.self.invariant.graph c.args.v.0 (rw (← c.self.view_is) at c.requires) in
+    first_within c.self.invariant.graph c.args.v.0 c.index-2.result.now c.index.result.now p.0 p.1 c.index-2.ensures c.index.ensures
 
 pub returns-clause-count : goal.returns-clause-count
 returns-clause-count c =
-    rw (← c.self.view_is) (λ p at ring is_ring. omega (arith, block_long c.self.invariant c.args.v.0 c.index-2.result.now c.index.result.now p at c.index-2.ensures c.index.ensures ring is_ring))
+    rw (← c.self.view_is) (λ p at ring is_ring. omega (arith, block_long c.self.invariant.graph c.args.v.0 c.index-2.result.now c.index.result.now p at c.index-2.ensures c.index.ensures ring is_ring))
 
 pub returns-clause-ring : goal.returns-clause-ring
-returns-clause-ring c = rw (← c.self.view_is) (λ p at. ring_of c.self.invariant c.args.v.0 p at)
+returns-clause-ring c = rw (← c.self.view_is) (λ p at. ring_of c.self.invariant.graph c.args.v.0 p at)
 
 pub returns-clause-sides : goal.returns-clause-sides
 returns-clause-sides c =
-    let p = vertex_at_number c.self.invariant c.args.v.0 (rw (← c.self.view_is) at c.requires) in
+    let p = vertex_at_number c.self.invariant.graph c.args.v.0 (rw (← c.self.view_is) at c.requires) in
     let starts = c.self.inside.layout.starts.items in
-    let counted = counted_at c.self.invariant c.args.v.0 p.0 p.1 in
-    let long = c.self.invariant.layout.one_more in
+    let counted = counted_at c.self.invariant.graph c.args.v.0 p.0 p.1 in
+    let long = c.self.invariant.graph.layout.one_more in
     let below = slice_get_within c.self.inside.layout.places.items c.args.v.0 p.0 p.1 in
     let first = get_or_read starts c.args.v.0 c.index-2.result.now (omega (arith, long, below)) c.index-2.ensures 0 in
     let behind = get_or_read starts (c.args.v.0 + 1) c.index.result.now (omega (arith, long, below)) c.index.ensures 0 in
@@ -33,7 +33,7 @@ returns-clause-sides c =
 pub returns-clause-edges : goal.returns-clause-edges
 returns-clause-edges c = rw (← c.self.view_is)
     (λ p at.
-    let ring = ring_of c.self.invariant c.args.v.0 p at in
-    let long = block_long c.self.invariant c.args.v.0 c.index-2.result.now c.index.result.now p at c.index-2.ensures c.index.ensures ring.0 ring.1 in
+    let ring = ring_of c.self.invariant.graph c.args.v.0 p at in
+    let long = block_long c.self.invariant.graph c.args.v.0 c.index-2.result.now c.index.result.now p at c.index-2.ensures c.index.ensures ring.0 ring.1 in
     let same : length ring.0 ≡ c.index.result.now - c.index-2.result.now = omega (arith, long) in
-    subst (HasDegree _ p) same (degree_of_ring _ p ring.0 c.self.invariant.ends_in_order c.self.invariant.each_once ring.1))
+    subst (HasDegree _ p) same (degree_of_ring _ p ring.0 c.self.invariant.graph.ends_in_order c.self.invariant.graph.each_once ring.1))

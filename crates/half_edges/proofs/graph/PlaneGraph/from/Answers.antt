@@ -10,5 +10,5 @@ returns-clause-within c =
     let origins = c.self.inside.layout.origins.items in
     let number : VertexId → ℕ = λ v. v.0 in
     let read = ap number c.index.ensures ∙ sym (get_or-map number origins c.args.s.0 c.index.result.now 0
-    (omega (arith, below, length-map origins number, c.self.invariant.layout.as_many))) in
-    rw (← c.self.view_is) (omega (arith, read, origin_within c.self.invariant c.args.s.0 below))
+    (omega (arith, below, length-map origins number, c.self.invariant.graph.layout.as_many))) in
+    rw (← c.self.view_is) (omega (arith, read, origin_within c.self.invariant.graph c.args.s.0 below))

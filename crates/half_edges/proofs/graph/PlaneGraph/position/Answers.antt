@@ -5,13 +5,13 @@ use Rattle.half_edges.proofs.graph.PlaneGraph.position.Goals as goal
 
 pub index-requires : goal.index-requires
 index-requires c =
-    let below = position_within c.self.invariant c.args.s.0 (rw (← c.self.view_is) at c.requires) in
+    let below = position_within c.self.invariant.graph c.args.s.0 (rw (← c.self.view_is) at c.requires) in
     omega (arith, below, c.self.inside.layout.positions.ok.0)
 
 pub returns-clause-place : goal.returns-clause-place
-returns-clause-place c = rw (← c.self.view_is) (λ h is ring is_ring. position_read c.self.invariant c.args.s.0 c.index.result.now c.index.ensures h is ring is_ring)
+returns-clause-place c = rw (← c.self.view_is) (λ h is ring is_ring. position_read c.self.invariant.graph c.args.s.0 c.index.result.now c.index.ensures h is ring is_ring)
 
 pub returns-clause-number : goal.returns-clause-number
 returns-clause-number c =
-    let below = position_within c.self.invariant c.args.s.0 (rw (← c.self.view_is) at c.requires) in
+    let below = position_within c.self.invariant.graph c.args.s.0 (rw (← c.self.view_is) at c.requires) in
     rw (← c.self.view_is) (get_or_read c.self.inside.layout.positions.items c.args.s.0 c.index.result.now below c.index.ensures 0)
