@@ -1,0 +1,4 @@
+pub mod Courses
+pub mod Views
+pub mod Scans
+pub mod States

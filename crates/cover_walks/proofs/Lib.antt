@@ -1,0 +1,16 @@
+pub mod Numbers
+pub mod Holdings
+pub mod Growth
+pub mod Limits
+pub mod Cuts
+pub mod Turns
+pub mod Choice
+pub mod Choosing
+pub mod Scans
+pub mod Steps
+pub mod Parity
+pub mod Undo
+pub mod Finish
+pub mod Roots
+pub mod Covers
+pub mod Instance
