@@ -1,0 +1,14 @@
+mod Listed
+pub mod GraphHalves
+pub mod TrailNumbers
+mod Degrees
+pub mod OddVertices
+mod NamedEdges
+mod JoinedHalves
+mod OrdersByCuts
+mod TrailsOnPlate
+mod Limits
+pub mod LastEnds
+pub mod Shares
+pub mod OuterNumbers
+pub mod StartNumbers
