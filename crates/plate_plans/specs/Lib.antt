@@ -1,0 +1,3 @@
+pub mod Plates
+pub mod Plans
+pub mod Laws
