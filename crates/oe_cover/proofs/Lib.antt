@@ -1,0 +1,10 @@
+pub mod Pieces
+pub mod ChainEnds
+pub mod GrownDrafts
+pub mod SideOrders
+pub mod FirstOdds
+pub mod FirstStarts
+pub mod PlannedOrders
+pub mod CoveredParts
+pub mod ComponentStarts
+pub mod PlannedShares

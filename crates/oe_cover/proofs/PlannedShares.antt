@@ -1,0 +1,121 @@
+-- The shares of the components that are planned, and one more.
+use Rattle.std.proofs.Common.{arith, ◌≡◌, ◌≢◌, ◌⊎◌, inl, inr, ◌<◌, ◌+◌, ℕ, List, [], ◌∷◌, ◌++◌, Option, length, length-take, take, map, refl, sym, ap, subst, ◌∙◌}
+use Rattle.std.specs.Prelude.{AllPairs, Contains, Some, slice_get}
+use Rattle.std.proofs.lemmas.List.{append-nil, map-append}
+use Rattle.std.proofs.lemmas.Grind.{flat_map-append}
+use Rattle.std.proofs.lemmas.Option.{slice_get_within}
+use Rattle.nest_base.specs.declared.places.Point.{Point}
+use Rattle.nest_base.specs.Plane.{HalfEdge}
+use Rattle.nest_base.proofs.Lists.{Contains-none}
+use Rattle.plate_sides.specs.Nesting.{AreParents, HasMarkSides}
+use Rattle.plate_covers.specs.Shares.{IsShare}
+use Rattle.plate_nesting.specs.Order.{IsBurningOrder}
+use Rattle.plate_plans.specs.Plans.{IsPlan, trails_of as shares_trails}
+use Rattle.plate_plans.proofs.Turns.{shares_are_plan}
+use Rattle.half_edges.specs.Numbers.{half_edges_of, twin_number}
+use Rattle.half_edges.specs.Runs.{side_at}
+use Rattle.half_edges.specs.Graph.{Graph, rotation_of, part_of, origin_of}
+use Rattle.half_edges.specs.Burns.{IsBurnt}
+use Rattle.half_edges.specs.PlaneGraphs.{IsPlaneGraph}
+use Rattle.half_edges.proofs.Items.{read_below, read_from_Contains, Contains-from_read, read-take, read_pushed, read_kept, read_of_pushed, AllPairs-reads}
+use Rattle.face_nesting.specs.Nesting.{Nesting}
+use Rattle.face_nesting.proofs.Prefixes.{take_read, AllZip-one_more}
+use Rattle.cover_walks.specs.Orders.{Has}
+use Rattle.cover_walks.specs.Chains.{chains_of}
+use Rattle.cover_walks.proofs.Holdings.{Has-after}
+use Rattle.component_route.specs.States.{IsUnburnt}
+use Rattle.oe_cover.specs.declared.planner.Planner.{Planner}
+use Rattle.oe_cover.specs.Drafts.{chains_in}
+use Rattle.oe_cover.specs.Trails.{trails_by}
+use Rattle.oe_cover.specs.Planning.{IsPlanning, IsCovered, HasPlanned, NothingPlanned, planned}
+use Rattle.oe_cover.proofs.PlannedOrders.{Has-either, Has-before}
+use Rattle.oe_cover.proofs.ComponentStarts.{HasStart, start_part, mark, share, has_all}
+
+-- what stands at a place of a list without repeats stands at no earlier one
+not_before : (order : List ℕ) (i c : ℕ) → AllPairs (λ a b. a ≢ b) order → slice_get order i ≡ Some c → Contains (take i order) c → ⊥
+not_before order i c once at stands =
+    let read = read_from_Contains (take i order) c stands in
+    let less : read.0 < i = omega (arith, slice_get_within (take i order) read.0 c read.1, length-take i order) in
+    AllPairs-reads (λ a b. a ≢ b) order read.0 i c c once less (sym (read-take i order read.0 less) ∙ read.1) at refl
+
+stands_in_front : (order : List ℕ) (i c d : ℕ) → slice_get order i ≡ Some c → Contains (take i order) d → Contains (take (i + 1) order) d
+stands_in_front order i c d at stands =
+    let read = read_from_Contains (take i order) d stands in
+    rw (take_read order i c at) (Contains-from_read (take i order ++ c ∷ []) read.0 d (read_kept (take i order) c read.0 d read.1))
+
+stands_last : (order : List ℕ) (i c : ℕ) → slice_get order i ≡ Some c → Contains (take (i + 1) order) c
+stands_last order i c at = rw (take_read order i c at) (Contains-from_read (take i order ++ c ∷ []) (length (take i order)) c (read_pushed (take i order) c))
+
+stands_either : (order : List ℕ) (i c d : ℕ) → slice_get order i ≡ Some c → Contains (take (i + 1) order) d → Contains (take i order) d ⊎ (c ≡ d)
+stands_either order i c d at stands =
+    let read = read_from_Contains (take i order ++ c ∷ []) d (rw (take_read order i c at) at stands) in
+    elim (read_of_pushed (take i order) c read.0 d read.1) [ inl old ↦ inl (Contains-from_read (take i order) read.0 d old) | inr last ↦ inr last.1 ]
+
+trails_by-append : (o : Graph) (xs ys : List (List ℕ)) → trails_by o.edges (xs ++ ys) ≡ trails_by o.edges xs ++ trails_by o.edges ys
+trails_by-append o xs ys = map-append (map (side_at (half_edges_of o.edges))) xs ys
+
+-- the trails of one share more
+trails_of_more : (shares : List (List (List HalfEdge))) (own : List (List HalfEdge)) → shares_trails (shares ++ own ∷ []) ≡ shares_trails shares ++ own
+trails_of_more shares own = flat_map-append (λ trails. trails) shares (own ∷ []) ∙ ap (λ trails. shares_trails shares ++ trails) (append-nil own)
+
+module _ {o : Graph} {faces : Nesting} (order : List ℕ) (i c start : ℕ) (at : slice_get order i ≡ Some c) (h : HasStart o faces c start) where
+  -- no edge of the component is burnt yet
+  pub not_burnt_yet : (x : Graph) (p : Planner) → IsPlanning o x p → HasPlanned o (take i order) p → o.burnt ≡ [] → AllPairs (λ a b. a ≢ b) order → IsUnburnt x start
+  not_burnt_yet x p planning is none once = subst (λ graph. IsUnburnt graph start) (sym planning.graph)
+      (λ s below part burnt. not_before order i c once at (subst (Contains (take i order)) (part ∙ start_part h) (is.inside s (was_planned s (subst (λ graph. IsBurnt graph s) (sym planning.graph) burnt)))))
+    where
+      was_planned : (s : ℕ) → IsBurnt x s → Has (rotation_of o) (planned p) s
+      was_planned s burnt = elim ((planning.burnt s).0 burnt) [
+        | inl (inl first) ↦ absurd (Contains-none s (subst (λ l. Contains l s) none first))
+        | inl (inr first) ↦ absurd (Contains-none (twin_number s) (subst (λ l. Contains l (twin_number s)) none first))
+        | inr has ↦ has
+      ]
+
+  module _ (before after : Planner) (is : HasPlanned o (take i order) before) (covered : IsCovered o start before after) where
+    abbrev own : List (List HalfEdge)
+    own = trails_by o.edges (chains_of (rotation_of o) covered.order)
+
+    -- its share is appended
+    pub one_more : HasPlanned o (take (i + 1) order) after
+    one_more = record {
+      shares = is.shares ++ own ∷ [];
+      are_shares = AllZip-one_more (λ n trails. (m : Point) × (slice_get o.marks n ≡ Some m) × IsShare o.edges m trails) order is.shares i c own at is.are_shares
+          ((mark h).0, (mark h).1, share h covered.order covered.covers (mark h).0 (mark h).1);
+      trails = ap (trails_by o.edges) covered.chains ∙ trails_by-append o (chains_in before.draft) (chains_of (rotation_of o) covered.order)
+          ∙ ap (λ trails. trails ++ own) is.trails ∙ sym (trails_of_more is.shares own);
+      inside = λ s has. elim (Has-either (rotation_of o) (planned before) covered.order s (subst (λ l. Has (rotation_of o) l s) covered.sides has)) [
+        | inl old ↦ stands_in_front order i c (part_of o (origin_of o s)) at (is.inside s old)
+        | inr new ↦ subst (Contains (take (i + 1) order)) (sym ((has_all h covered.order covered.covers s).0 new).1) (stands_last order i c at)
+      ];
+      whole = λ s below stands. subst (λ l. Has (rotation_of o) l s) (sym covered.sides) (elim (stands_either order i c (part_of o (origin_of o s)) at stands) [
+        | inl old ↦ Has-before (rotation_of o) (planned before) covered.order s (is.whole s below old)
+        | inr same ↦ Has-after (rotation_of o) (planned before) covered.order s ((has_all h covered.order covered.covers s).1 (below, sym same))
+      ]);
+    }
+
+-- at first there is nothing
+pub nothing_planned : (o : Graph) (p : Planner) → NothingPlanned p → HasPlanned o [] p
+nothing_planned o p none = record {
+  shares = [];
+  are_shares = tt;
+  trails = ap (trails_by o.edges) none.chains;
+  inside = λ s has. absurd (subst (λ l. Has (rotation_of o) l s) none.sides has);
+  whole = λ s below stands. absurd (Contains-none (part_of o (origin_of o s)) stands);
+}
+
+-- in the end all components are planned
+module _ {o : Graph} {parents : List (Option ℕ)} {order : List ℕ} {p : Planner} (plane : IsPlaneGraph o) (are : AreParents o.edges o.marks parents)
+    (burns : IsBurningOrder parents order) (is : HasPlanned o order p) where
+  pub all_are_plan : HasMarkSides o.edges → IsPlan o.edges (trails_by o.edges (chains_in p.draft))
+  all_are_plan mark_sides = subst (IsPlan o.edges) (sym is.trails)
+      (shares_are_plan o.edges o.marks parents order is.shares
+      (record { ends_in_order = plane.ends_in_order; apart = plane.apart; are_marks = plane.are_marks; round = plane.round; mark_sides = mark_sides })
+      are burns is.are_shares)
+
+  pub all_are_burnt : (x : Graph) → IsPlanning o x p → (s : ℕ) → s < length (half_edges_of o.edges) → IsBurnt x s
+  all_are_burnt x planning s below =
+      let h = read_below (half_edges_of o.edges) s below in
+      let mark = plane.parts s h.0 h.1 in
+      let c = part_of o (origin_of o s) in
+      let within : c < length parents = omega (arith, slice_get_within o.marks c mark.0 mark.1, are.as_many) in
+      (planning.burnt s).1 (inr (is.whole s below (burns.all c within)))

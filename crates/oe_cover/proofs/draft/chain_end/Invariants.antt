@@ -1,0 +1,14 @@
+use Rattle.std.proofs.Common.{length, ◌-◌, ◌≡◌, ◌<◌, ◌+◌, drop}
+use Rattle.half_edges.specs.Graph.{rotation_of}
+use Rattle.face_nesting.specs.Numbering.{numbers_of}
+use Rattle.oe_cover.specs.ChainEnds.{chain_length}
+use Rattle.oe_cover.proofs.draft.chain_end.Given as goal
+
+-- the chain goes at least to `last`, and from there as far as it goes from `first`
+abbrev pub invariant-loop-last : goal.invariant-loop-last
+invariant-loop-last l =
+    (l.last < length l.order)
+    × (l.fn.first + chain_length (rotation_of l.graph) (drop l.fn.first (numbers_of l.order)) ≡ l.last + chain_length (rotation_of l.graph) (drop l.last (numbers_of l.order)))
+
+abbrev pub decreases-loop-last : goal.decreases-loop-last
+decreases-loop-last l = length l.order - l.last

@@ -1,0 +1,6 @@
+pub mod Pieces
+pub mod ChainEnds
+pub mod Drafts
+pub mod Starts
+pub mod Planning
+pub mod Trails
