@@ -1,25 +1,22 @@
 -- An accepted drawing is refused for no reason, so where nothing failed it's planned, or memory ran out.
-use Rattle.std.proofs.Common.{ap, arith, ◌≡◌, ◌≢◌, ◌≤◌, ◌∙◌, inl, inr, ℕ, List, refl, sym, subst}
+use Rattle.std.proofs.Common.{ap, arith, ◌≡◌, ◌≢◌, ◌≤◌, ◌∙◌, inl, inr, ℕ, List, refl, sym}
 use Rattle.std.specs.Prelude.{Some, None, Contains, slice_get}
 use Rattle.std.specs.Option.{is_some}
 use Rattle.std.proofs.lemmas.Bool.{true≢false}
 use Rattle.std.proofs.lemmas.Option.{slice_get_within, get_or_from_slice_get}
 use Rattle.nest_base.specs.declared.places.Segment.{Segment}
 use Rattle.plate_edges.proofs.Counts.{one_number_of_pieces}
-use Rattle.plate_edges.proofs.OneList.{one_list}
 use Rattle.cut_desk.specs.Outside.{Outside, Told, WhereTold, Rose, Later}
 use Rattle.dxf_drawing.specs.Drawings.{segments_of}
-use Rattle.loop_plate.specs.Loops.{HasOtherVertex}
 use Rattle.segment_split.specs.Splits.{IsSplitRefusal}
 use Rattle.segment_split.specs.declared.splitting.SplitError.{SplitError}
 use Rattle.segment_split.specs.declared.splitting.SplitError.TheVariants.{Crossing, TooManyPieces, OutOfMemory as NoMemory}
-use Rattle.nest_program.specs.Outputs.{IsAccepted, IsNotLoops}
+use Rattle.nest_program.specs.Outputs.{IsAccepted}
 use Rattle.nest_program.specs.Statuses.{IsRefused, IsDecided, HasCause, NoFaultRose, IsComplete}
-use Rattle.nest_program.specs.declared.status.Early.TheVariants.{NotLoops}
 use Rattle.nest_program.specs.declared.status.Refusal.{Refusal}
 use Rattle.nest_program.specs.declared.status.Refusal.TheVariants.{Reading, Splitting}
 use Rattle.nest_program.specs.declared.status.Status.{Status}
-use Rattle.nest_program.specs.declared.status.Status.TheVariants.{Done, Words, ReadFault, TooLong, Drawing, Early, WriteFault, PrintFault, Memory}
+use Rattle.nest_program.specs.declared.status.Status.TheVariants.{Done, Words, ReadFault, TooLong, Drawing, WriteFault, PrintFault, Memory}
 
 stands_in : (segments : List Segment) (i : ℕ) (s : Segment) → slice_get segments i ≡ Some s → Contains segments s
 stands_in segments i s e = (i, slice_get_within segments i s e, get_or_from_slice_get segments i s s e)
@@ -37,12 +34,6 @@ refused_not_accepted : (file : List ℕ) (refusal : Refusal) → IsRefused file 
 refused_not_accepted file (Reading e) refused accepted = true≢false (ap is_some (sym refused.0 ∙ accepted.1.read))
 refused_not_accepted file (Splitting e) refused accepted = split_not_refused file e refused.1 refused.2 accepted
 
-other_not_accepted : (file : List ℕ) → IsNotLoops file → IsAccepted file → ⊥
-other_not_accepted file (edges, drawing, other) (others, split, loops) =
-    let same = one_list (segments_of file) edges others drawing.split.are_edges split.split.are_edges in
-    let its_other = subst HasOtherVertex same other in
-    its_other.2 (loops its_other.0 its_other.1)
-
 -- a count that rose is above itself later on too
 rose_later : (before now later : ℕ) → Rose before now → now ≤ later → Rose before later
 rose_later before now later rose after = omega (arith, rose, after)
@@ -56,7 +47,6 @@ by_status ReadFault input output old now new file command decided cause later no
     absurd (none.reads (rose_later (old.read_faults input) (now.read_faults input) (new.read_faults input) cause (later.reads input)))
 by_status TooLong input output old now new file command decided cause later none small accepted = absurd (omega (arith, decided, small))
 by_status (Drawing refusal) input output old now new file command decided cause later none small accepted = absurd (refused_not_accepted file refusal decided.1 accepted)
-by_status (Early NotLoops) input output old now new file command decided cause later none small accepted = absurd (other_not_accepted file decided.1 accepted)
 by_status WriteFault input output old now new file command decided cause later none small accepted =
     absurd (none.writes (rose_later (old.write_faults output) (now.write_faults output) (new.write_faults output) cause (later.writes output)))
 by_status PrintFault input output old now new file command decided cause later none small accepted =

@@ -1,4 +1,3 @@
-mod LoopLines
 pub mod Promises
 pub mod PlannedOutputs
 pub mod Completeness

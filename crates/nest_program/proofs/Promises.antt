@@ -1,28 +1,24 @@
--- The promise of the top call, kept by routes round closed loops.
-use Rattle.std.proofs.Common.{◌≡◌, ℕ, List, [], ◌∷◌, map, length, lit≤, subst}
-use Rattle.std.specs.Prelude.{All, Contains, Option}
+-- The promise of the top call, kept by a plan for the drawing's edges.
+use Rattle.std.proofs.Common.{◌≡◌, ◌≤◌, inl, inr, ℕ, List, [], ◌∷◌, map, lit≤, refl, sym, ap, subst, ◌∙◌}
+use Rattle.std.specs.Prelude.{All, Contains}
 use Rattle.std.specs.List.{AllZip}
+use Rattle.std.proofs.lemmas.List.Elements.{All-contains}
 use Rattle.nest_base.specs.declared.places.Point.{Point}
 use Rattle.nest_base.specs.declared.places.Segment.{Segment}
 use Rattle.nest_base.specs.declared.places.Edge.{Edge}
 use Rattle.nest_base.specs.Plane.{HalfEdge}
+use Rattle.nest_base.specs.Order.{IsBefore}
 use Rattle.nest_base.specs.Range.{IsEdgeWithin}
 use Rattle.nest_base.specs.Routes.{legs}
-use Rattle.nest_base.specs.Selection.{HasCount}
-use Rattle.nest_base.proofs.Lists.{Contains-head, Contains-later}
+use Rattle.nest_base.proofs.Lists.{Contains-head, Contains-later, Contains-cases, Contains-none}
 use Rattle.plate_edges.specs.Edges.{AreEdgesOf}
-use Rattle.plate_sides.specs.Sides.{forth}
-use Rattle.plate_sides.specs.Components.{IsMark, IsIn}
-use Rattle.plate_sides.specs.Nesting.{AreParents, IsOuterRing}
-use Rattle.plate_covers.specs.Cover.{HasTrailsIn}
+use Rattle.plate_sides.specs.Components.{IsMark}
+use Rattle.plate_covers.specs.Cover.{IsTrail, IsCover, joined, HasTrailsIn}
+use Rattle.plate_sides.specs.Enclosing.{IsOrderEnclosing}
+use Rattle.plate_covers.specs.Limit.{IsLimit}
+use Rattle.plate_covers.specs.Routes.{stops}
 use Rattle.pierce_report.specs.Report.{Row, IsRowOf, IsReport}
-use Rattle.plate_nesting.specs.Order.{IsBurningOrder}
-use Rattle.loop_plate.specs.Loops.{IsPlate, AreLoops, AreRoutes}
-use Rattle.loop_plate.specs.Plans.{IsPlanOfLoops}
-use Rattle.loop_plate.specs.LoopReport.{AreEdgeCounts, loops_report}
-use Rattle.loop_plate.proofs.RoundLoops.{outer_sides_go_round}
-use Rattle.loop_plate.proofs.RoutePlans.{routes_are_a_plan}
-use Rattle.loop_plate.proofs.Reports.{loops_are_reported}
+use Rattle.plate_plans.specs.Plans.{IsPlan}
 use Rattle.code_moves.specs.BurntChains.{BurnsChains}
 use Rattle.code_moves.specs.CodeText.{code_text}
 use Rattle.code_moves.specs.Meaning.{moves_of}
@@ -34,72 +30,87 @@ use Rattle.sound_code.proofs.PlanLightings.{burnt_plan_has_lightings, plan_has_p
 use Rattle.sound_code.proofs.WritableChains.{cut_within, chains_can_be_written}
 use Rattle.nest_program.specs.Promise.{IsOrderEnclosingPlan}
 
--- routes round all loops of a drawing, in burning order
-pub record AreLoopRoutes (edges : List Edge) (marks : List Point) (parents : List (Option ℕ)) (order : List ℕ) (chains : List (List Point)) : Type 0 where
+-- the legs between the stops of a trail are its half-edges
+legs_of_trail : (edges : List Edge) (trail : List HalfEdge) → IsTrail edges trail → legs (stops trail) ≡ trail
+legs_of_trail edges [] none = absurd none
+legs_of_trail edges (s ∷ []) is = refl
+legs_of_trail edges (s ∷ t ∷ rest) (is, follows, later) =
+    ap (λ k. s ∷ k) (ap (λ (p : Point). legs (p ∷ map (λ (h : HalfEdge). h.to) (t ∷ rest))) follows ∙ legs_of_trail edges (t ∷ rest) later)
+
+-- so each trail is the way along its stops
+legs_of_trails : (edges : List Edge) (trails : List (List HalfEdge)) → ((trail : List HalfEdge) → Contains trails trail → IsTrail edges trail) → map legs (map stops trails) ≡ trails
+legs_of_trails edges [] are = refl
+legs_of_trails edges (trail ∷ trails) are =
+    ap (λ t. t ∷ map legs (map stops trails)) (legs_of_trail edges trail (are trail (Contains-head trail trails)))
+    ∙ ap (λ ts. trail ∷ ts) (legs_of_trails edges trails (λ other c. are other (Contains-later trail other trails c)))
+
+-- the row of a mark vertex
+row_at : (R : Point → Row → Type 0) (mark : Point) (marks : List Point) (rows : List Row) → AllZip R marks rows → Contains marks mark → (row : Row) × R mark row
+row_at R mark [] rows zip c = absurd (Contains-none mark c)
+row_at R mark (m ∷ marks) [] zip c = absurd zip
+row_at R mark (m ∷ marks) (row ∷ rows) zip c = elim (Contains-cases m mark marks c) [
+  | inl e ↦ (row, subst (λ (p : Point). R p row) e zip.0)
+  | inr later ↦ row_at R mark marks rows zip.1 later
+]
+
+-- trails that are a plan for the edges of a drawing, and the report on them
+pub record IsReportedPlan (edges : List Edge) (trails : List (List HalfEdge)) (report : List ℕ) : Type 0 where
+  pub ends_in_order : All (λ (e : Edge). IsBefore e.low e.high) edges
   pub within : All (IsEdgeWithin 100000000) edges
-  pub plate : IsPlate edges marks
-  pub loops : AreLoops edges
-  pub are_parents : AreParents edges marks parents
-  pub is_order : IsBurningOrder parents order
-  pub are_routes : AreRoutes edges marks order chains
+  pub plan : IsPlan edges trails
+  pub reported : IsReport edges (λ mark n. HasTrailsIn edges mark trails n) report
 
-module _ {edges : List Edge} {marks : List Point} {parents : List (Option ℕ)} {order : List ℕ} {chains : List (List Point)} (r : AreLoopRoutes edges marks parents order chains) where
-  routes_plan : IsPlanOfLoops edges chains
-  routes_plan = routes_are_a_plan outer_sides_go_round edges marks parents order chains r.plate r.loops r.are_parents r.is_order r.are_routes
+module _ {edges : List Edge} {trails : List (List HalfEdge)} {report : List ℕ} (r : IsReportedPlan edges trails report) where
+  abbrev pub chains : List (List Point)
+  chains = map stops trails
 
-  -- the code that is written for the routes burns them
-  pub routes_are_burnt : BurnsChains chains (code_text chains)
-  routes_are_burnt =
-      let cut = cut_within 100000000 edges (lit≤ tt) r.plate.ends_in_order r.within in
-      written_code_burns chains (chains_can_be_written edges chains cut routes_plan.covers.is_cover)
+  legs_are : map legs chains ≡ trails
+  legs_are = legs_of_trails edges trails (λ trail c. All-contains (IsTrail edges) trails trail r.plan.covers.is_cover.are_trails c)
 
-  -- as many edges as its outer sides has each of these components
-  counts_of : (some : List Point) (counts : List ℕ) → ((mark : Point) → Contains some mark → IsMark edges mark) →
-      AllZip (λ mark n. (ring : List HalfEdge) × IsOuterRing edges mark ring × (length ring ≡ n)) some counts → AreEdgeCounts edges some counts
-  counts_of [] [] are zip = tt
-  counts_of [] (n ∷ counts) are zip = absurd zip
-  counts_of (mark ∷ some) [] are zip = absurd zip
-  counts_of (mark ∷ some) (n ∷ counts) are ((ring, is_ring, is_length), rest) =
-      let round = outer_sides_go_round edges marks r.plate r.loops mark ring (are mark (Contains-head mark some)) is_ring in
-      (subst (HasCount (λ (e : Edge). IsIn edges mark (forth e)) edges) is_length round.as_many, counts_of some counts (λ k c. are k (Contains-later mark k some c)) rest)
+  way : IsEnclosingPlan edges chains
+  way = record {
+    covers = subst (IsCover edges) (sym legs_are) r.plan.covers.is_cover;
+    encloses = subst (λ ts. IsOrderEnclosing edges (joined ts)) (sym legs_are) r.plan.covers.enclosing;
+  }
 
-  -- and so have all
-  pub edge_counts_are : (counts : List ℕ) → AllZip (λ mark n. (ring : List HalfEdge) × IsOuterRing edges mark ring × (length ring ≡ n)) marks counts → AreEdgeCounts edges marks counts
-  edge_counts_are counts zip = counts_of marks counts (λ mark c. (r.plate.are_marks.are_all mark).0 c) zip
+  -- the code that is written for the trails burns them
+  pub trails_are_burnt : BurnsChains chains (code_text chains)
+  trails_are_burnt = written_code_burns chains (chains_can_be_written edges chains (cut_within 100000000 edges (lit≤ tt) r.ends_in_order r.within) way.covers)
 
-  -- a chain of the plan is a pierce of its component
-  rows_of_pierces : (some : List Point) (rows : List Row) → AllZip (λ mark (row : Row). IsRowOf edges mark row × HasTrailsIn edges mark (map legs chains) row.pierces) some rows →
+  -- a trail of the plan is a pierce of its component
+  pierces : (mark : Point) (n : ℕ) → HasTrailsIn edges mark trails n → HasPierces edges (on_lines chains) mark n
+  pierces mark n has = plan_has_pierces edges mark chains n (subst (λ ts. HasTrailsIn edges mark ts n) (sym legs_are) has)
+
+  rows_of_pierces : (some : List Point) (rows : List Row) → AllZip (λ mark (row : Row). IsRowOf edges mark row × HasTrailsIn edges mark trails row.pierces) some rows →
       AllZip (λ mark (row : Row). IsRowOf edges mark row × HasPierces edges (on_lines chains) mark row.pierces) some rows
   rows_of_pierces [] [] zip = tt
   rows_of_pierces [] (row ∷ rows) zip = absurd zip
   rows_of_pierces (mark ∷ some) [] zip = absurd zip
-  rows_of_pierces (mark ∷ some) (row ∷ rows) zip =
-      ((zip.0.0, plan_has_pierces edges mark chains row.pierces zip.0.1), rows_of_pierces some rows zip.1)
+  rows_of_pierces (mark ∷ some) (row ∷ rows) zip = ((zip.0.0, pierces mark row.pierces zip.0.1), rows_of_pierces some rows zip.1)
 
-  pierces_are_reported : (counts : List ℕ) → AreEdgeCounts edges marks counts → IsReport edges (HasPierces edges (on_lines chains)) (loops_report counts)
-  pierces_are_reported counts are_counts =
-      let report = loops_are_reported edges marks counts chains r.plate.are_marks routes_plan are_counts in
-      record {
-        marks = report.marks;
-        are_marks = report.are_marks;
-        rows = report.rows;
-        are_rows = rows_of_pierces report.marks report.rows report.are_rows;
-        is_text = report.is_text;
-      }
+  pierces_are_reported : IsReport edges (HasPierces edges (on_lines chains)) report
+  pierces_are_reported = record {
+    marks = r.reported.marks;
+    are_marks = r.reported.are_marks;
+    rows = r.reported.rows;
+    are_rows = rows_of_pierces r.reported.marks r.reported.rows r.reported.are_rows;
+    is_text = r.reported.is_text;
+  }
 
-  -- that code, and the report on the loops, keep the promise
-  pub loops_plan : (segments : List Segment) (counts : List ℕ) → AreEdgesOf segments edges → AreEdgeCounts edges marks counts →
-      IsOrderEnclosingPlan segments (moves_of (code_text chains)) (loops_report counts)
-  loops_plan segments counts are_edges are_counts =
-      let plan = routes_plan in
-      let way : IsEnclosingPlan edges chains = record { covers = plan.covers.is_cover; encloses = plan.covers.enclosing } in
-      record {
-        edges = edges;
-        are_edges = are_edges;
-        sound = burnt_plan_is_sound edges chains (code_text chains) way routes_are_burnt;
-        lightings = on_lines chains;
-        are_lightings = burnt_plan_has_lightings edges chains (code_text chains) way routes_are_burnt;
-        within_limits = λ mark is_mark. (1, 1, plan.limit mark is_mark, plan_has_pierces edges mark chains 1 (plan.one_trail mark is_mark), lit≤ tt);
-        reported = pierces_are_reported counts are_counts;
-        no_cover_undercuts = plan.none_undercuts;
-      }
+  limits : (mark : Point) → IsMark edges mark → (limit : ℕ) × (n : ℕ) × IsLimit edges mark limit × HasPierces edges (on_lines chains) mark n × (n ≤ limit)
+  limits mark is_mark =
+      let (row, (is_row, has)) = row_at (λ m (row : Row). IsRowOf edges m row × HasTrailsIn edges m trails row.pierces) mark r.reported.marks r.reported.rows r.reported.are_rows ((r.reported.are_marks.are_all mark).1 is_mark) in
+      (row.limit, row.pierces, is_row.has_limit, pierces mark row.pierces has, r.plan.within_limit mark is_mark row.pierces row.limit has is_row.has_limit)
+
+  -- that code, and the report, keep the promise
+  pub promise_is_kept : (segments : List Segment) → AreEdgesOf segments edges → IsOrderEnclosingPlan segments (moves_of (code_text chains)) report
+  promise_is_kept segments are_edges = record {
+    edges = edges;
+    are_edges = are_edges;
+    sound = burnt_plan_is_sound edges chains (code_text chains) way trails_are_burnt;
+    lightings = on_lines chains;
+    are_lightings = burnt_plan_has_lightings edges chains (code_text chains) way trails_are_burnt;
+    within_limits = limits;
+    reported = pierces_are_reported;
+    no_cover_undercuts = r.plan.none_undercuts;
+  }

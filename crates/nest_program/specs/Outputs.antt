@@ -1,15 +1,17 @@
 -- Which drawings are planned, and what they give.
-use Rattle.std.specs.Prelude.{◌≡◌, ℕ, List, Option, None}
+use Rattle.std.specs.Prelude.{◌≡◌, ℕ, List, Option, None, map}
 use Rattle.nest_base.specs.declared.places.Point.{Point}
 use Rattle.nest_base.specs.declared.places.Edge.{Edge}
+use Rattle.nest_base.specs.Plane.{HalfEdge}
 use Rattle.code_moves.specs.CodeText.{code_text}
 use Rattle.code_moves.specs.Meaning.{code_refusal_of, moves_of}
 use Rattle.dxf_drawing.specs.Drawings.{segments_of, read_refusal_of}
 use Rattle.segment_split.specs.Splits.{IsSplit}
 use Rattle.plate_sides.specs.Components.{AreMarks}
 use Rattle.plate_sides.specs.Nesting.{AreParents}
+use Rattle.plate_covers.specs.Routes.{stops}
 use Rattle.plate_nesting.specs.Order.{IsBurningOrder}
-use Rattle.loop_plate.specs.Loops.{AreLoops, HasOtherVertex, AreRoutes}
+use Rattle.plate_plans.specs.Plans.{AreShares, trails_of}
 use Rattle.nest_program.specs.Promise.{IsOrderEnclosingPlan}
 
 -- the bytes are a drawing that isn't refused, and these are its edges
@@ -17,29 +19,23 @@ pub record IsDrawingOf (file : List ℕ) (edges : List Edge) : Type 0 where
   pub read : read_refusal_of file ≡ None
   pub split : IsSplit (segments_of file) edges
 
--- its components are closed loops: each vertex has two half-edges
+-- there is no reason to refuse it
 abbrev pub IsAccepted : List ℕ → Type 0
-IsAccepted file = (edges : List Edge) × IsDrawingOf file edges × AreLoops edges
+IsAccepted file = (edges : List Edge) × IsDrawingOf file edges
 
--- some vertex hasn't two half-edges
-abbrev pub IsNotLoops : List ℕ → Type 0
-IsNotLoops file = (edges : List Edge) × IsDrawingOf file edges × HasOtherVertex edges
-
--- the code and the report of an accepted drawing: the code is one chain for each component, the route round it from its mark vertex
--- along its mark side, and of the components that are ready the least number comes first; read as motion it has no fault and keeps
--- the promise
+-- the code and the report of an accepted drawing: the code is that of trails, share by share of the components in burning order; read
+-- as motion it has no fault and keeps the promise
 pub record IsOutput (file code report : List ℕ) : Type 0 where
   pub edges : List Edge
   pub drawing : IsDrawingOf file edges
-  pub loops : AreLoops edges
   pub marks : List Point
   pub are_marks : AreMarks edges marks
   pub parents : List (Option ℕ)
   pub are_parents : AreParents edges marks parents
   pub order : List ℕ
   pub is_order : IsBurningOrder parents order
-  pub chains : List (List Point)
-  pub are_routes : AreRoutes edges marks order chains
-  pub code_is : code ≡ code_text chains
+  pub shares : List (List (List HalfEdge))
+  pub are_shares : AreShares edges marks order shares
+  pub code_is : code ≡ code_text (map stops (trails_of shares))
   pub has_no_fault : code_refusal_of code ≡ None
   pub promise : IsOrderEnclosingPlan (segments_of file) (moves_of code) report

@@ -7,13 +7,12 @@ use Rattle.dxf_drawing.specs.Drawings.{segments_of, read_refusal_of}
 use Rattle.segment_split.specs.Splits.{IsSplitRefusal}
 use Rattle.segment_split.specs.declared.splitting.SplitError.TheVariants.{OutOfMemory as NoMemory}
 use Rattle.nest_program.specs.FaultText.{reading_text, splitting_text}
-use Rattle.nest_program.specs.Outputs.{IsAccepted, IsNotLoops, IsOutput}
+use Rattle.nest_program.specs.Outputs.{IsAccepted, IsOutput}
 use Rattle.nest_program.specs.Promise.{IsOrderEnclosingPlan}
-use Rattle.nest_program.specs.declared.status.Early.TheVariants.{NotLoops}
 use Rattle.nest_program.specs.declared.status.Refusal.{Refusal}
 use Rattle.nest_program.specs.declared.status.Refusal.TheVariants.{Reading, Splitting}
 use Rattle.nest_program.specs.declared.status.Status.{Status}
-use Rattle.nest_program.specs.declared.status.Status.TheVariants.{Done, Words, ReadFault, TooLong, Drawing, Early, WriteFault, PrintFault, Memory}
+use Rattle.nest_program.specs.declared.status.Status.TheVariants.{Done, Words, ReadFault, TooLong, Drawing, WriteFault, PrintFault, Memory}
 
 abbrev pub exit_code_of : Status → ℕ
 exit_code_of Done = 0
@@ -21,7 +20,6 @@ exit_code_of Words = 2
 exit_code_of ReadFault = 3
 exit_code_of TooLong = 3
 exit_code_of (Drawing refusal) = 4
-exit_code_of (Early early) = 4
 exit_code_of WriteFault = 5
 exit_code_of PrintFault = 5
 exit_code_of Memory = 6
@@ -38,7 +36,6 @@ fault_text Words = codes "usage: plan IN OUT\n"
 fault_text ReadFault = codes "read fault\n"
 fault_text TooLong = codes "file too long\n"
 fault_text (Drawing refusal) = refusal_text refusal
-fault_text (Early NotLoops) = codes "refused not loops\n"
 fault_text WriteFault = codes "write fault\n"
 fault_text PrintFault = []
 fault_text Memory = codes "out of memory\n"
@@ -52,7 +49,6 @@ IsRefused file (Splitting e) = (read_refusal_of file ≡ None) × IsSplitRefusal
 abbrev pub IsDecided : Status → List ℕ → Type 0
 IsDecided TooLong file = 2 ^ 26 < length file
 IsDecided (Drawing refusal) file = (length file ≤ 2 ^ 26) × IsRefused file refusal
-IsDecided (Early NotLoops) file = (length file ≤ 2 ^ 26) × IsNotLoops file
 IsDecided Done file = (length file ≤ 2 ^ 26) × IsAccepted file
 IsDecided WriteFault file = (length file ≤ 2 ^ 26) × IsAccepted file
 IsDecided PrintFault file = (length file ≤ 2 ^ 26) × IsAccepted file

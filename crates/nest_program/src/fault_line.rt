@@ -6,7 +6,7 @@ ghost use Rattle.segment_split.specs.declared.splitting.SplitError.TheVariants.{
 ghost use Rattle.nest_program.specs.FaultText.{at_line, group_text, kind_text, reading_text, splitting_text};
 
 use crate::line::FaultLine;
-use crate::status::{Early, Refusal, Status};
+use crate::status::{Refusal, Status};
 use dxf_drawing::{DrawingError, Kind};
 use dxf_groups::GroupError;
 use nest_base::Point;
@@ -150,7 +150,6 @@ pub fn fault_line(status: &Status) -> FaultLine
         Status::ReadFault => FaultLine::of(b"read fault\n"),
         Status::TooLong => FaultLine::of(b"file too long\n"),
         Status::Drawing(refusal) => refused_line(refusal),
-        Status::Early(Early::NotLoops) => FaultLine::of(b"refused not loops\n"),
         Status::WriteFault => FaultLine::of(b"write fault\n"),
         Status::Memory => FaultLine::of(b"out of memory\n"),
     }

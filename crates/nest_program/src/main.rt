@@ -1,4 +1,4 @@
-//! The program: `plan IN OUT` reads a drawing of closed loops, writes the code that burns it and prints the report.
+//! The program: `plan IN OUT` reads a drawing, writes the code that burns it and prints the report.
 //!
 //! `run` is the top call, over any outside: it reads the words, reads and plans the drawing in memory, and only then touches
 //! OUT and prints. What stands after each status is promised by its contract. `main` makes the words and the real desk, calls
@@ -8,7 +8,6 @@
 pub mod fault_line;
 pub mod line;
 pub mod output;
-pub mod report;
 pub mod run;
 pub mod status;
 #[cfg(test)]

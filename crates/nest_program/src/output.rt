@@ -1,21 +1,20 @@
 //! From the bytes of a drawing to the code and the report, all in memory.
-ghost use Rattle.std.specs.Prelude.{◌≡◌, ◌≤◌, ◌^◌, length, map, All, AllPairs, IfOk, IfErr};
+ghost use Rattle.std.specs.Prelude.{◌≡◌, ◌≤◌, ◌^◌, length, map, None, All, AllPairs, IfOk, IfErr};
 ghost use Rattle.nest_base.specs.Order.{IsBefore};
 ghost use Rattle.nest_base.specs.Range.{IsEdgeWithin};
 ghost use Rattle.plate_edges.specs.Points.{EdgesMeetAtEndsOnly};
-ghost use Rattle.code_moves.specs.CodeText.{code_text};
 ghost use Rattle.nest_program.specs.Outputs.{IsDrawingOf, IsOutput};
 ghost use Rattle.nest_program.specs.Reasons.{IsReason};
 ghost use Rattle.nest_program.specs.declared.output.PlanError.TheVariants.{OutOfMemory as NoMemory};
 
-use crate::report::put_loops_report;
-use crate::status::{Early, Refusal};
+use crate::status::Refusal;
 use dxf_drawing::{DrawingError, read_drawing};
 use face_nesting::Faces;
 use half_edges::PlaneGraph;
-use loop_route::{are_loops, edge_counts, plan_loops};
 use nest_base::{Edges, OutOfMemory, Point, Text};
-use ngc_writer::{write_chain, write_head, write_tail};
+use ngc_writer::write_code;
+use oe_cover::{Plan, cover_all};
+use pierce_report::report;
 use segment_split::{SplitError, split};
 use std::alloc::Global;
 use thiserror::Error;
@@ -32,8 +31,6 @@ pub struct Output {
 pub enum PlanError {
     #[error("the drawing is refused")]
     Refused(Refusal),
-    #[error("the drawing isn't planned")]
-    Early(Early),
     #[error("out of memory")]
     OutOfMemory,
 }
@@ -44,20 +41,6 @@ impl From<OutOfMemory> for PlanError {
     fn from(_: OutOfMemory) -> Self {
         PlanError::OutOfMemory
     }
-}
-
-/// The whole code of these chains of places.
-fn code_of(alloc: Global, chains: &[Vec<Point>]) -> Result<Text, OutOfMemory>
-    requires { All (λ places. 2 ≤ length places.items) chains.now }
-    ensures { IfOk result (λ code. code ≡ code_text (map (λ places. places.items) chains.now)) }
-{
-    let mut code = Text::new(alloc);
-    write_head(&mut code)?;
-    for places in chains {
-        write_chain(places, &mut code)?;
-    }
-    write_tail(&mut code)?;
-    Ok(code)
 }
 
 /// The edges of a drawing, or why it gives none.
@@ -82,6 +65,13 @@ fn edges_of(alloc: Global, bytes: &[u8]) -> Result<Edges, PlanError>
     }
 }
 
+/// No lead-in for any of the chains: each is pierced on the line.
+fn no_leads(alloc: Global, plan: &Plan) -> Result<Vec<Option<Point>>, OutOfMemory>
+    ensures { IfOk result (λ leads. leads.items ≡ map (λ _. None) plan.now) }
+{
+    Ok(vec![in alloc; None; plan.len()]?)
+}
+
 /// The code and the report of a drawing, or why it gives none.
 pub fn output_of(alloc: Global, bytes: &[u8]) -> Result<Output, PlanError>
     requires few { length bytes.now ≤ 2 ^ 26 }
@@ -89,15 +79,11 @@ pub fn output_of(alloc: Global, bytes: &[u8]) -> Result<Output, PlanError>
     ensures refused { IfErr result (λ why. IsReason why bytes.now) }
 {
     let edges = edges_of(alloc, bytes)?;
-    let graph = PlaneGraph::build(alloc, &edges)?;
-    if !are_loops(&graph) {
-        return Err(PlanError::Early(Early::NotLoops));
-    }
+    let mut graph = PlaneGraph::build(alloc, &edges)?;
     let faces = Faces::build(alloc, &graph)?;
-    let chains = plan_loops(alloc, &graph, &faces)?;
-    let code = code_of(alloc, &chains)?;
-    let counts = edge_counts(alloc, &graph, &faces)?;
-    let mut report = Text::new(alloc);
-    put_loops_report(&counts, &mut report)?;
+    let plan = cover_all(alloc, &mut graph, &faces)?;
+    let leads = no_leads(alloc, &plan)?;
+    let code = write_code(alloc, &graph, &plan, &leads)?;
+    let report = report(alloc, &graph, &faces, &plan)?;
     Ok(Output { code, report })
 }

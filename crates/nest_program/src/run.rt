@@ -35,7 +35,6 @@ fn plan<D: Desk>(alloc: Global, desk: &mut D, input: &str, output: &str) -> Stat
     let planned = match output_of(alloc, &drawing) {
         Ok(planned) => planned,
         Err(PlanError::Refused(refusal)) => return Status::Drawing(refusal),
-        Err(PlanError::Early(early)) => return Status::Early(early),
         Err(PlanError::OutOfMemory) => return Status::Memory,
     };
     if write_whole(desk, output, planned.code.as_slice()).is_err() {

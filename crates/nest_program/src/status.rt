@@ -14,13 +14,6 @@ pub enum Refusal {
     Splitting(SplitError),
 }
 
-/// Why a drawing that was split isn't planned, as long as closed loops are all that is.
-#[derive(Clone, Copy, Debug, PartialEq, Eq, Drop)]
-pub enum Early {
-    /// Some vertex hasn't two half-edges.
-    NotLoops,
-}
-
 /// How a run ends.
 #[derive(Debug, Drop)]
 pub enum Status {
@@ -34,8 +27,6 @@ pub enum Status {
     TooLong,
     /// The drawing is refused.
     Drawing(Refusal),
-    /// The drawing isn't planned yet.
-    Early(Early),
     /// The code couldn't be written.
     WriteFault,
     /// The code was written, and the report couldn't be printed.
@@ -53,7 +44,7 @@ impl Status {
             Status::Done => 0,
             Status::Words => 2,
             Status::ReadFault | Status::TooLong => 3,
-            Status::Drawing(_) | Status::Early(_) => 4,
+            Status::Drawing(_) => 4,
             Status::WriteFault | Status::PrintFault => 5,
             Status::Memory => 6,
         }

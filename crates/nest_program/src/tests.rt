@@ -3,10 +3,11 @@ mod loops;
 mod nests;
 mod planned;
 mod refused;
+mod shared;
 mod splits;
 
 use crate::run::run;
-use crate::status::{Early, Status};
+use crate::status::Status;
 use anyhow::{Result, ensure};
 use cut_desk::MemoryDesk;
 use std::alloc::{AllocError, Global};
@@ -29,6 +30,9 @@ const SQUARE_CODE: &str = "G21 G90\nF1000 S1\nG0 X0.000 Y10.000\nM3\n\
 
 const SQUARE_REPORT: &str =
     "component 1 edges 4 odd 0 bound 1 limit 1 pierces 1\ntotal pierces 1 bound 1\nfewest\n";
+
+/// Stands in the place of a reason where a drawing isn't refused.
+const ACCEPTED: &str = "accepted";
 
 fn words_of(alloc: Global, texts: &[&str]) -> Result<Vec<String>, AllocError> {
     let mut words = Vec::new(alloc);
@@ -69,7 +73,7 @@ fn square_file(alloc: Global) -> Result<Vec<u8>, AllocError> {
 fn desk_with(alloc: Global, drawing: &[u8]) -> Result<MemoryDesk> {
     let mut desk = MemoryDesk::new(alloc);
     desk.put_file("a.dxf", drawing)?;
-    desk.reserve("a.ngc", 100_000)?;
+    desk.reserve("a.ngc", 1_000_000)?;
     Ok(desk)
 }
 
@@ -91,6 +95,33 @@ fn is_planned(alloc: Global, what: &str, drawing: &[u8], code: &str, report: &st
     Ok(())
 }
 
+/// Whether the drawing is planned with this report, whatever its code is.
+fn is_reported(alloc: Global, what: &str, drawing: &[u8], report: &str) -> Result<()> {
+    let mut desk = desk_with(alloc, drawing)?;
+    let status = plan(alloc, &mut desk)?;
+    let printed = str::from_utf8(desk.printed())?;
+    ensure!(printed == report, "{what}: {printed}");
+    ensure!(matches!(status, Status::Done), "{what}: {status:?}");
+    Ok(())
+}
+
+/// Whether the drawing is planned, whatever its code and its report are; there is so much room for the code.
+fn is_planned_at_all(alloc: Global, what: &str, drawing: &[u8], room: usize) -> Result<()> {
+    let mut desk = MemoryDesk::new(alloc);
+    desk.put_file("a.dxf", drawing)?;
+    desk.reserve("a.ngc", room)?;
+    let status = plan(alloc, &mut desk)?;
+    ensure!(matches!(status, Status::Done), "{what}: {status:?}");
+    ensure!(status.code() == 0, "{what}");
+    ensure!(desk.printed().starts_with(b"component 1 edges "), "{what}");
+    let is_code = match desk.file("a.ngc") {
+        Some(code) => code.starts_with(b"G21 G90\nF1000 S1\nG0 ") && code.ends_with(b"M5\nM2\n"),
+        None => false,
+    };
+    ensure!(is_code, "{what}");
+    Ok(())
+}
+
 /// Whether the drawing is refused, with this behind the printed word `refused`.
 fn is_refused(alloc: Global, what: &str, drawing: &[u8], why: &str) -> Result<()> {
     let mut desk = desk_with(alloc, drawing)?;
@@ -99,10 +130,18 @@ fn is_refused(alloc: Global, what: &str, drawing: &[u8], why: &str) -> Result<()
     let printed = str::from_utf8(desk.printed())?;
     ensure!(printed == expected.as_str(), "{what}: {printed}");
     ensure!(desk.file("a.ngc").is_none(), "{what}");
-    let is_early = matches!(status, Status::Early(Early::NotLoops));
-    ensure!(is_early == (why == "not loops"), "{what}: {status:?}");
+    ensure!(matches!(status, Status::Drawing(_)), "{what}: {status:?}");
     ensure!(status.code() == 4, "{what}");
     Ok(())
+}
+
+/// Whether the drawing is refused for this reason, or planned where that is `ACCEPTED`.
+fn is_answered(alloc: Global, what: &str, drawing: &[u8], why: &str) -> Result<()> {
+    if why == ACCEPTED {
+        is_planned_at_all(alloc, what, drawing, 4_000_000)
+    } else {
+        is_refused(alloc, what, drawing, why)
+    }
 }
 
 #[test]

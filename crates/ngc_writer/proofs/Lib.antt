@@ -1,0 +1,2 @@
+pub mod ChainLines
+pub mod Routes

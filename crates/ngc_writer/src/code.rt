@@ -1,14 +1,21 @@
 //! The lines of code, each ended by LF, with numbers in millimetres.
-//!
-//! After want of memory a text may hold a part of the lines: it's of no use then.
-ghost use Rattle.std.specs.Prelude.{◌≡◌, ◌≤◌, ◌++◌, length, codes, flat_map, OnOk};
-ghost use Rattle.code_moves.specs.CodeText.{head_text, motion_text, chain_text, tail_text};
+ghost use Rattle.std.specs.Prelude.{◌≡◌, ◌<◌, ◌++◌, All, length, codes, flat_map, map, IfOk, OnOk};
+ghost use Rattle.nest_base.specs.Plane.{HalfEdge};
+ghost use Rattle.plate_covers.specs.Routes.{stops_from, routes_of};
+ghost use Rattle.half_edges.specs.Numbers.{half_edges_of};
+ghost use Rattle.face_nesting.specs.Numbering.{numbers_of};
+ghost use Rattle.cover_plan.specs.Trails.{half_of};
+ghost use Rattle.ngc_writer.specs.Lightings.{lighting_text};
+ghost use Rattle.code_moves.specs.CodeText.{head_text, motion_text, chain_text, tail_text, code_text};
 
+use half_edges::PlaneGraph;
 use micron_decimals::put_micron;
-use nest_base::{OutOfMemory, Point, Text};
+use nest_base::{OutOfMemory, Point, Side, Text};
+use oe_cover::Plan;
+use std::alloc::Global;
 
 /// Appends the head: millimetres and absolute places, feed and power.
-pub fn write_head(out: &mut Text) -> Result<(), OutOfMemory>
+fn write_head(out: &mut Text) -> Result<(), OutOfMemory>
     ensures { OnOk result (out.new ≡ out.old ++ head_text) }
 {
     out.append(b"G21 G90\nF1000 S1\n")
@@ -26,56 +33,87 @@ fn write_motion(word: &[u8], p: Point, out: &mut Text) -> Result<(), OutOfMemory
     out.append(b"\n")
 }
 
-/// Appends the lines that burn from each place to the next.
-fn write_burns(places: &[Point], out: &mut Text) -> Result<(), OutOfMemory>
-    ensures { OnOk result (out.new ≡ out.old ++ flat_map (motion_text (codes "G1")) places.now) }
+/// Where a half-edge begins.
+fn beginning_of(graph: &PlaneGraph, s: Side) -> Point
+    requires within { s.0 < length (half_edges_of graph.now.edges) }
+    ensures { result ≡ (half_of graph.now s.0).from }
 {
-    for p in places {
-        write_motion(b"G1", *p, out)?;
+    graph.place(graph.from(s))
+}
+
+/// Where a half-edge leads.
+fn end_of(graph: &PlaneGraph, s: Side) -> Point
+    requires within { s.0 < length (half_edges_of graph.now.edges) }
+    ensures { result ≡ (half_of graph.now s.0).to }
+{
+    graph.place(graph.to(s))
+}
+
+/// Appends the lines that burn these half-edges.
+fn write_burns(graph: &PlaneGraph, chain: &[Side], out: &mut Text) -> Result<(), OutOfMemory>
+    requires within { All (λ s. s.0 < length (half_edges_of graph.now.edges)) chain.now }
+    ensures { OnOk result (out.new ≡ out.old ++
+        flat_map (λ s. motion_text (codes "G1") (half_of graph.now s.0).to) chain.now) }
+{
+    for s in chain {
+        write_motion(b"G1", end_of(graph, *s), out)?;
     }
     Ok(())
 }
 
-/// Appends the lines of one chain: unlit to its first place, one lighting, and from each place to the next.
-pub fn write_chain(places: &[Point], out: &mut Text) -> Result<(), OutOfMemory>
-    requires { 2 ≤ length places.now }
-    ensures { OnOk result (out.new ≡ out.old ++ chain_text places.now) }
+/// Appends the lines that light the torch where a lead-in to `first` begins and follow it, or at `first` where there is none.
+fn write_lighting(first: Point, lead: Option<Point>, out: &mut Text) -> Result<(), OutOfMemory>
+    ensures { OnOk result (out.new ≡ out.old ++ lighting_text lead first) }
 {
-    write_motion(b"G0", places[0], out)?;
+    write_motion(b"G0", lead.unwrap_or(first), out)?;
     out.append(b"M3\n")?;
-    write_burns(&places[1..], out)?;
+    match lead {
+        None => Ok(()),
+        Some(_) => write_motion(b"G1", first, out),
+    }
+}
+
+/// Appends the lines of one chain: its lighting, then from vertex to vertex.
+fn write_chain(
+    graph: &PlaneGraph,
+    chain: &[Side],
+    lead: Option<Point>,
+    out: &mut Text,
+) -> Result<(), OutOfMemory>
+    requires some { 0 < length chain.now }
+    requires within { All (λ s. s.0 < length (half_edges_of graph.now.edges)) chain.now }
+    ensures { OnOk result (out.new ≡ out.old ++ chain_text (stops_from lead (map (half_of graph.now) (numbers_of chain.now)))) }
+{
+    write_lighting(beginning_of(graph, chain[0]), lead, out)?;
+    write_burns(graph, chain, out)?;
     out.append(b"M5\n")
 }
 
 /// Appends the tail, which ends the program.
-pub fn write_tail(out: &mut Text) -> Result<(), OutOfMemory>
+fn write_tail(out: &mut Text) -> Result<(), OutOfMemory>
     ensures { OnOk result (out.new ≡ out.old ++ tail_text) }
 {
     out.append(b"M2\n")
 }
 
-#[cfg(test)]
-mod tests {
-    use super::{write_chain, write_head, write_tail};
-    use anyhow::{Result, ensure};
-    use nest_base::{Point, Text};
-
-    #[test]
-    fn the_square_gives_ten_lines(rt: HostRuntime) -> Result<()> {
-        let corners = [
-            (0, 10_000),
-            (10_000, 10_000),
-            (10_000, 0),
-            (0, 0),
-            (0, 10_000),
-        ];
-        let mut code = Text::new(rt.alloc());
-        write_head(&mut code)?;
-        write_chain(&corners.map(|(x, y)| Point { x, y }), &mut code)?;
-        write_tail(&mut code)?;
-        let expected =
-            b"G21 G90\nF1000 S1\nG0 X0.000 Y10.000\nM3\nG1 X10.000 Y10.000\nG1 X10.000 Y0.000\nG1 X0.000 Y0.000\nG1 X0.000 Y10.000\nM5\nM2\n";
-        ensure!(code.as_slice() == expected.as_slice());
-        Ok(())
+/// The code of a plan: of each chain with its lead-in, or a pierce on the line where it has none.
+///
+/// Takes **O(n)** for n half-edges. `OutOfMemory` comes for want of memory alone.
+pub fn write_code(
+    alloc: Global,
+    graph: &PlaneGraph,
+    plan: &Plan,
+    leads: &[Option<Point>],
+) -> Result<Text, OutOfMemory>
+    requires within { All (All (λ s. s < length (half_edges_of graph.now.edges))) plan.now }
+    requires as_many { length leads.now ≡ length plan.now }
+    ensures { IfOk result (λ code. code ≡ code_text (routes_of leads.now (map (map (half_of graph.now)) plan.now))) }
+{
+    let mut code = Text::new(alloc);
+    write_head(&mut code)?;
+    for (i, lead) in leads.iter().enumerate() {
+        write_chain(graph, plan.chain(i), *lead, &mut code)?;
     }
+    write_tail(&mut code)?;
+    Ok(code)
 }

@@ -1,0 +1,4 @@
+pub mod Totals
+pub mod ByComponent
+pub mod RowLists
+pub mod RowLines

@@ -1,5 +1,14 @@
 //! What the report says of a drawing, and its text.
 //!
-//! The report is a function of the drawing and of the pierces of each component, and nothing of the route plays a part in it.
-//! Definitions alone: nothing here runs. The promise of the top call stands on them.
+//! The report is a function of the drawing and of the pierces of each component, and nothing else of the route plays a part in it.
+//! It takes **O(n)** for n edges and chains, and the memory of a few numbers for each component beside its text.
 #![tactic(auto)]
+
+pub mod counts;
+pub mod reporting;
+pub mod rows;
+#[cfg(test)]
+mod tests;
+pub mod text;
+
+pub use reporting::report;

@@ -1,6 +1,6 @@
-//! Drawings that are refused, each with what is printed of it.
+//! Drawings that are refused, each with what is printed of it, and some that aren't.
 
-use super::{HEAD, SQUARE, TAIL, file_of, is_refused, put_lines};
+use super::{ACCEPTED, HEAD, SQUARE, TAIL, file_of, is_answered, put_lines};
 use anyhow::Result;
 use std::alloc::Global;
 
@@ -235,16 +235,16 @@ const GROUPS: [(&str, &str); 89] = [
         "0=LINE|8=0|10=0|20=0|11=100000.001|21=0",
         "E6 line 14 beyond the range",
     ),
-    ("0=LINE|8=0|10=0|20=0|11=100000.000|21=0", "not loops"),
+    ("0=LINE|8=0|10=0|20=0|11=100000.000|21=0", ACCEPTED),
     ("0=LINE|10=x|10=1|20=0|11=1|21=0", "E5 line 8 not a number"),
-    ("0=LINE|10=1|10=x|20=0|20=1E400|11=2|21=0", "not loops"),
+    ("0=LINE|10=1|10=x|20=0|20=1E400|11=2|21=0", ACCEPTED),
     (
         "0=LINE|10=0|10=1E400|20=x|11=2|21=0",
         "E5 line 12 not a number",
     ),
     (
         "0=LINE|30=x|31=y|42=z|70=u|1=|210=v|220=w|230=-1|10=0|20=0|11=1|21=0",
-        "not loops",
+        ACCEPTED,
     ),
     ("0=POLYLINE|70=1.0", "E5 line 8 not a number"),
     ("0=POLYLINE|70=0000000001", "E5 line 8 not a number"),
@@ -290,7 +290,7 @@ const GROUPS: [(&str, &str); 89] = [
     ("0=LINE|21=0|10=1", "E7 line 6 lacks group 20"),
     ("0=LINE|21=0|10=1|20=0", "E7 line 6 lacks group 11"),
     ("0=LINE|-10=0|20=0|11=1|21=0", "E7 line 6 lacks group 10"),
-    ("0=LINE|010=0|0020=0|11=1|21=0", "not loops"),
+    ("0=LINE|010=0|0020=0|11=1|21=0", ACCEPTED),
     ("0=LINE|21=x", "E5 line 8 not a number"),
     ("0=LINE|10=0|20=-100000.001", "E6 line 10 beyond the range"),
     ("0=LINE|0=ARC", "E7 line 6 lacks group 10"),
@@ -370,18 +370,18 @@ const GROUPS: [(&str, &str); 89] = [
         "0=LINE|10=3|20=3|11=3.00049|21=2.9996",
         "E10 nothing to cut",
     ),
-    ("0=LINE|10=3|20=3|11=3.0005|21=3", "not loops"),
+    ("0=LINE|10=3|20=3|11=3.0005|21=3", ACCEPTED),
     (
         "0=POLYLINE|70=1|0=VERTEX|10=0|20=0|0=SEQEND",
         "E10 nothing to cut",
     ),
     (
         "0=POLYLINE|0=VERTEX|10=0|20=0|0=VERTEX|10=9|20=0|0=SEQEND",
-        "not loops",
+        ACCEPTED,
     ),
     (
         "0=POLYLINE|70=1|0=VERTEX|10=0|20=0|0=VERTEX|10=9|20=0|0=SEQEND",
-        "not loops",
+        ACCEPTED,
     ),
 ];
 
@@ -393,11 +393,11 @@ const BEHIND_A_SQUARE: [(&str, &str); 8] = [
         "E6 line 60 beyond the range",
     ),
     ("0=LINE|10=0|20=0|21=0", "E7 line 54 lacks group 11"),
-    ("0=LINE|10=0|20=0|11=10|21=10", "not loops"),
-    ("0=LINE|10=2|20=2|11=8|21=8", "not loops"),
+    ("0=LINE|10=0|20=0|11=10|21=10", ACCEPTED),
+    ("0=LINE|10=2|20=2|11=8|21=8", ACCEPTED),
     (
         "0=POLYLINE|70=1|0=VERTEX|10=2|20=2|0=VERTEX|10=8|20=8|0=SEQEND",
-        "not loops",
+        ACCEPTED,
     ),
     ("0=POLYLINE|0=VERTEX|10=2|20=2|42=0.5", "E8 line 56 bulge"),
     ("0=POLYLINE|67=1|0=VERTEX|10=x|0=ARC", "E8 line 62 ARC"),
@@ -439,18 +439,18 @@ const COORDINATES: [(&str, &str); 40] = [
         "1e99999999999999999999999999999999999999",
         "E6 line 8 beyond the range",
     ),
-    ("100000.00049999999999999999999999999999999", "not loops"),
-    ("-100000.0004", "not loops"),
-    ("1e5", "not loops"),
-    ("-100E+3", "not loops"),
-    ("1e-99999999999999999999999999999999999999", "not loops"),
-    ("0e99999999999999999999999999999999999999", "not loops"),
-    ("00000000000000000000000000000000000000002", "not loops"),
-    ("5.", "not loops"),
-    ("+.5", "not loops"),
-    (" \t-7 \t", "not loops"),
-    ("7\r", "not loops"),
-    ("-0", "not loops"),
+    ("100000.00049999999999999999999999999999999", ACCEPTED),
+    ("-100000.0004", ACCEPTED),
+    ("1e5", ACCEPTED),
+    ("-100E+3", ACCEPTED),
+    ("1e-99999999999999999999999999999999999999", ACCEPTED),
+    ("0e99999999999999999999999999999999999999", ACCEPTED),
+    ("00000000000000000000000000000000000000002", ACCEPTED),
+    ("5.", ACCEPTED),
+    ("+.5", ACCEPTED),
+    (" \t-7 \t", ACCEPTED),
+    ("7\r", ACCEPTED),
+    ("-0", ACCEPTED),
 ];
 
 /// Lines that are long: what stands before them, how often a byte, and what stands behind.
@@ -504,36 +504,36 @@ fn files_are_refused_by_their_lines_and_parts(rt: HostRuntime) -> Result<()> {
     for (text, why) in FILES {
         let mut file = Vec::new(alloc);
         put_lines(text, "\n", &mut file)?;
-        is_refused(alloc, text, &file, why)?;
+        is_answered(alloc, text, &file, why)?;
     }
     Ok(())
 }
 
-/// Whether each of the entities, alone in a drawing, is refused with what stands beside it.
-fn are_refused(alloc: Global, cases: &[(&str, &str)]) -> Result<()> {
+/// Whether each of the entities, alone in a drawing, is refused with what stands beside it, or planned.
+fn are_answered(alloc: Global, cases: &[(&str, &str)]) -> Result<()> {
     for (entities, why) in cases {
         let file = file_of(alloc, &[HEAD, entities, TAIL], "\n")?;
-        is_refused(alloc, entities, &file, why)?;
+        is_answered(alloc, entities, &file, why)?;
     }
     Ok(())
 }
 
 #[test]
 fn entities_are_refused_by_their_places_and_names(rt: HostRuntime) -> Result<()> {
-    are_refused(rt.alloc(), &PLACES_AND_NAMES)
+    are_answered(rt.alloc(), &PLACES_AND_NAMES)
 }
 
 #[test]
 fn entities_are_refused_by_their_groups(rt: HostRuntime) -> Result<()> {
-    are_refused(rt.alloc(), &GROUPS)
+    are_answered(rt.alloc(), &GROUPS)
 }
 
 #[test]
-fn entities_behind_a_square_are_refused(rt: HostRuntime) -> Result<()> {
+fn entities_behind_a_square_are_refused_or_planned(rt: HostRuntime) -> Result<()> {
     let alloc = rt.alloc();
     for (entities, why) in BEHIND_A_SQUARE {
         let file = file_of(alloc, &[HEAD, SQUARE, entities, TAIL], "\n")?;
-        is_refused(alloc, entities, &file, why)?;
+        is_answered(alloc, entities, &file, why)?;
     }
     Ok(())
 }
@@ -544,7 +544,7 @@ fn coordinates_are_numbers_within_the_range(rt: HostRuntime) -> Result<()> {
     for (text, why) in COORDINATES {
         let line = format!(in alloc; "0=LINE|10={text}|20=0|11=1|21=0")?;
         let file = file_of(alloc, &[HEAD, line.as_str(), TAIL], "\n")?;
-        is_refused(alloc, text, &file, why)?;
+        is_answered(alloc, text, &file, why)?;
     }
     Ok(())
 }
@@ -559,7 +559,7 @@ fn lines_are_not_too_long(rt: HostRuntime) -> Result<()> {
             file.push(b'0')?;
         }
         put_lines(rear, "\n", &mut file)?;
-        is_refused(alloc, front, &file, why)?;
+        is_answered(alloc, front, &file, why)?;
     }
     Ok(())
 }

@@ -1,4 +1,0 @@
-pub mod Loops
-pub mod Plans
-pub mod LoopReport
-pub mod Square

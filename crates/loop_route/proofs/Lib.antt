@@ -1,4 +1,0 @@
-pub mod OuterSides
-pub mod RoundRoutes
-pub mod BurningRoutes
-pub mod Degrees

@@ -1,0 +1,39 @@
+//! The report on a plan.
+ghost use Rattle.std.specs.Prelude.{◌≡◌, All, IfOk, length};
+ghost use Rattle.plate_covers.specs.Cover.{IsTrail, HasTrailsIn};
+ghost use Rattle.face_nesting.specs.Nesting.{AreOuterRings};
+ghost use Rattle.pierce_report.specs.Report.{IsReport};
+ghost use Rattle.oe_cover.specs.Trails.{trails_by};
+
+use crate::counts::chain_counts;
+use crate::rows::{all_numbers, total_bound};
+use crate::text::{put_rows, put_totals};
+use face_nesting::Faces;
+use half_edges::PlaneGraph;
+use nest_base::{OutOfMemory, Text};
+use oe_cover::Plan;
+use pierce_bound::plane::graph_is_plane;
+use std::alloc::Global;
+
+/// The report on a plan whose chains are trails of the graph: each is one pierce, of the component in which it lies.
+///
+/// Takes **O(n)** for n edges and chains. `OutOfMemory` comes for want of memory alone.
+pub fn report(
+    alloc: Global,
+    graph: &PlaneGraph,
+    faces: &Faces,
+    plan: &Plan,
+) -> Result<Text, OutOfMemory>
+    requires parents { length faces.now.parents ≡ length graph.now.marks }
+    requires outer_rings { AreOuterRings graph.now faces.now }
+    requires trails { All (IsTrail graph.now.edges) (trails_by graph.now.edges plan.now) }
+    ensures { IfOk result (λ text. IsReport graph.now.edges (λ mark n. HasTrailsIn graph.now.edges mark (trails_by graph.now.edges plan.now) n) text) }
+{
+    graph_is_plane(graph);
+    let pierces = chain_counts(alloc, graph, plan)?;
+    let rows = all_numbers(alloc, graph, faces, &pierces)?;
+    let mut text = Text::new(alloc);
+    put_rows(&rows, &mut text)?;
+    put_totals(plan.len(), total_bound(&rows), &mut text)?;
+    Ok(text)
+}
