@@ -16,6 +16,7 @@ use Rattle.plate_plans.specs.Plans.{AreShares, trails_of, IsPlan}
 use Rattle.half_edges.specs.Numbers.{half_edges_of}
 use Rattle.half_edges.specs.Runs.{side_at}
 use Rattle.oe_cover.specs.Trails.{trails_by}
+use Rattle.oe_cover.specs.Ends.{EndAtFirstStarts}
 use Rattle.pierce_report.specs.Report.{IsReport}
 use Rattle.code_moves.specs.CodeText.{code_text}
 use Rattle.code_moves.specs.Meaning.{code_refusal_of, moves_of}
@@ -60,6 +61,7 @@ pub record IsPlanned (edges : List Edge) (marks : List Point) (parents : List (O
   pub are_parents : AreParents edges marks parents
   pub is_order : IsBurningOrder parents order
   pub are_shares : AreShares edges marks order shares
+  pub ends : EndAtFirstStarts edges marks order shares
   pub plan : IsPlan edges (trails_of shares)
   pub reported : IsReport edges (λ mark n. HasTrailsIn edges mark (trails_of shares) n) report
 
@@ -88,6 +90,7 @@ module _ {file : List ℕ} {edges : List Edge} {marks : List Point} {parents : L
         is_order = planned.is_order;
         shares = shares;
         are_shares = planned.are_shares;
+        ends = planned.ends;
         code_is = code_is;
         has_no_fault = ap code_refusal_of code_is ∙ (trails_are_burnt reported).accepted;
         promise = subst (λ bytes. IsOrderEnclosingPlan segments (moves_of bytes) report) (sym code_is) (promise_is_kept reported segments drawn.drawing.split.are_edges);

@@ -12,6 +12,7 @@ use Rattle.plate_sides.specs.Nesting.{AreParents}
 use Rattle.plate_covers.specs.Routes.{stops}
 use Rattle.plate_nesting.specs.Order.{IsBurningOrder}
 use Rattle.plate_plans.specs.Plans.{AreShares, trails_of}
+use Rattle.oe_cover.specs.Ends.{EndAtFirstStarts}
 use Rattle.nest_program.specs.Promise.{IsOrderEnclosingPlan}
 
 -- the bytes are a drawing that isn't refused, and these are its edges
@@ -23,8 +24,8 @@ pub record IsDrawingOf (file : List ℕ) (edges : List Edge) : Type 0 where
 abbrev pub IsAccepted : List ℕ → Type 0
 IsAccepted file = (edges : List Edge) × IsDrawingOf file edges
 
--- the code and the report of an accepted drawing: the code is that of trails, share by share of the components in burning order; read
--- as motion it has no fault and keeps the promise
+-- the code and the report of an accepted drawing: the code is that of trails, share by share of the components in burning order, and each
+-- share ends at the first of the vertices at which a cover of its component may start; read as motion the code has no fault and keeps the promise
 pub record IsOutput (file code report : List ℕ) : Type 0 where
   pub edges : List Edge
   pub drawing : IsDrawingOf file edges
@@ -36,6 +37,7 @@ pub record IsOutput (file code report : List ℕ) : Type 0 where
   pub is_order : IsBurningOrder parents order
   pub shares : List (List (List HalfEdge))
   pub are_shares : AreShares edges marks order shares
+  pub ends : EndAtFirstStarts edges marks order shares
   pub code_is : code ≡ code_text (map stops (trails_of shares))
   pub has_no_fault : code_refusal_of code ≡ None
   pub promise : IsOrderEnclosingPlan (segments_of file) (moves_of code) report

@@ -40,7 +40,7 @@ module _ {o : Graph} {faces : Nesting} {c start : ℕ} (h : HasStart o faces c s
   pub mark : (m : Point) × (slice_get o.marks c ≡ Some m)
   mark = read_below o.marks c h.within
 
-  half : (s : HalfEdge) × IsSide o.edges start s
+  pub half : (s : HalfEdge) × IsSide o.edges start s
   half = read_below (half_edges_of o.edges) start start_below
 
   begins : (m : Point) → slice_get o.marks c ≡ Some m → IsStart o.edges m half.0

@@ -4,6 +4,7 @@ pub mod GrownDrafts
 pub mod SideOrders
 pub mod FirstOdds
 pub mod FirstStarts
+pub mod FirstEnds
 pub mod PlannedOrders
 pub mod CoveredParts
 pub mod ComponentStarts

@@ -8,7 +8,7 @@ use Rattle.nest_base.specs.declared.places.Point.{Point}
 use Rattle.nest_base.specs.Plane.{HalfEdge}
 use Rattle.nest_base.proofs.Lists.{Contains-none}
 use Rattle.plate_sides.specs.Nesting.{AreParents, HasMarkSides}
-use Rattle.plate_covers.specs.Shares.{IsShare}
+use Rattle.plate_covers.specs.Shares.{IsShare, LastEndsAt}
 use Rattle.plate_nesting.specs.Order.{IsBurningOrder}
 use Rattle.plate_plans.specs.Plans.{IsPlan, trails_of as shares_trails}
 use Rattle.plate_plans.proofs.Turns.{shares_are_plan}
@@ -18,7 +18,7 @@ use Rattle.half_edges.specs.Graph.{Graph, rotation_of, part_of, origin_of}
 use Rattle.half_edges.specs.Burns.{IsBurnt}
 use Rattle.half_edges.specs.PlaneGraphs.{IsPlaneGraph}
 use Rattle.half_edges.proofs.Items.{read_below, read_from_Contains, Contains-from_read, read-take, read_pushed, read_kept, read_of_pushed, AllPairs-reads}
-use Rattle.face_nesting.specs.Nesting.{Nesting}
+use Rattle.face_nesting.specs.Nesting.{Nesting, ring_at}
 use Rattle.face_nesting.proofs.Prefixes.{take_read, AllZip-one_more}
 use Rattle.cover_walks.specs.Orders.{Has}
 use Rattle.cover_walks.specs.Chains.{chains_of}
@@ -27,9 +27,12 @@ use Rattle.component_route.specs.States.{IsUnburnt}
 use Rattle.oe_cover.specs.declared.planner.Planner.{Planner}
 use Rattle.oe_cover.specs.Drafts.{chains_in}
 use Rattle.oe_cover.specs.Trails.{trails_by}
+use Rattle.oe_cover.specs.Starts.{IsFirstStart}
+use Rattle.oe_cover.specs.Ends.{IsFirstOfStarts}
 use Rattle.oe_cover.specs.Planning.{IsPlanning, IsCovered, HasPlanned, NothingPlanned, planned}
 use Rattle.oe_cover.proofs.PlannedOrders.{Has-either, Has-before}
-use Rattle.oe_cover.proofs.ComponentStarts.{HasStart, start_part, mark, share, has_all}
+use Rattle.oe_cover.proofs.FirstEnds.{first_of_starts}
+use Rattle.oe_cover.proofs.ComponentStarts.{HasStart, start_part, mark, half, share, ends_there, has_all}
 
 -- what stands at a place of a list without repeats stands at no earlier one
 not_before : (order : List ℕ) (i c : ℕ) → AllPairs (λ a b. a ≢ b) order → slice_get order i ≡ Some c → Contains (take i order) c → ⊥
@@ -71,7 +74,7 @@ module _ {o : Graph} {faces : Nesting} (order : List ℕ) (i c start : ℕ) (at 
         | inr has ↦ has
       ]
 
-  module _ (before after : Planner) (is : HasPlanned o (take i order) before) (covered : IsCovered o start before after) where
+  module _ (first : IsFirstStart o (ring_at faces c) start) (before after : Planner) (is : HasPlanned o (take i order) before) (covered : IsCovered o start before after) where
     abbrev own : List (List HalfEdge)
     own = trails_by o.edges (chains_of (rotation_of o) covered.order)
 
@@ -81,6 +84,13 @@ module _ {o : Graph} {faces : Nesting} (order : List ℕ) (i c start : ℕ) (at 
       shares = is.shares ++ own ∷ [];
       are_shares = AllZip-one_more (λ n trails. (m : Point) × (slice_get o.marks n ≡ Some m) × IsShare o.edges m trails) order is.shares i c own at is.are_shares
           ((mark h).0, (mark h).1, share h covered.order covered.covers (mark h).0 (mark h).1);
+      ends = AllZip-one_more (λ n trails. (m : Point) × (p : Point) × (slice_get o.marks n ≡ Some m) × IsFirstOfStarts o.edges m p × LastEndsAt trails p) order is.shares i c own at is.ends (
+        (mark h).0,
+        (half h).0.from,
+        (mark h).1,
+        first_of_starts faces h.plane h.rings c (mark h).0 (mark h).1 start (half h).0 (half h).1 first,
+        ends_there h covered.order covered.covers (half h).0 (half h).1,
+      );
       trails = ap (trails_by o.edges) covered.chains ∙ trails_by-append o (chains_in before.draft) (chains_of (rotation_of o) covered.order)
           ∙ ap (λ trails. trails ++ own) is.trails ∙ sym (trails_of_more is.shares own);
       inside = λ s has. elim (Has-either (rotation_of o) (planned before) covered.order s (subst (λ l. Has (rotation_of o) l s) covered.sides has)) [
@@ -98,6 +108,7 @@ pub nothing_planned : (o : Graph) (p : Planner) → NothingPlanned p → HasPlan
 nothing_planned o p none = record {
   shares = [];
   are_shares = tt;
+  ends = tt;
   trails = ap (trails_by o.edges) none.chains;
   inside = λ s has. absurd (subst (λ l. Has (rotation_of o) l s) none.sides has);
   whole = λ s below stands. absurd (Contains-none (part_of o (origin_of o s)) stands);

@@ -11,6 +11,7 @@ use Rattle.cover_walks.specs.Chains.{chains_of}
 use Rattle.cover_walks.specs.Covers.{IsCoverOrder}
 use Rattle.oe_cover.specs.declared.planner.Planner.{Planner}
 use Rattle.oe_cover.specs.Trails.{trails_by}
+use Rattle.oe_cover.specs.Ends.{EndAtFirstStarts}
 use Rattle.oe_cover.specs.Drafts.{IsDraft, chains_in}
 
 -- the half-edges of the plan so far, in burning order
@@ -44,5 +45,6 @@ pub record HasPlanned (o : Graph) (components : List ℕ) (p : Planner) : Type 0
   pub shares : List (List (List HalfEdge))
   pub are_shares : AreShares o.edges o.marks components shares
   pub trails : trails_by o.edges (chains_in p.draft) ≡ shares_trails shares
+  pub ends : EndAtFirstStarts o.edges o.marks components shares
   pub inside : (s : ℕ) → Has (rotation_of o) (planned p) s → Contains components (part_of o (origin_of o s))
   pub whole : (s : ℕ) → s < (rotation_of o).sides → Contains components (part_of o (origin_of o s)) → Has (rotation_of o) (planned p) s

@@ -7,6 +7,7 @@ ghost use Rattle.plate_plans.specs.Plans.{AreShares, IsPlan, trails_of};
 ghost use Rattle.half_edges.specs.Numbers.{half_edges_of};
 ghost use Rattle.half_edges.specs.Burns.{IsBurnt, with_burnt};
 ghost use Rattle.face_nesting.specs.Nesting.{AreOuterRings};
+ghost use Rattle.oe_cover.specs.Ends.{EndAtFirstStarts};
 ghost use Rattle.oe_cover.specs.Trails.{trails_by};
 
 use crate::plan::Plan;
@@ -29,6 +30,7 @@ pub fn cover_all(alloc: Global, graph: &mut PlaneGraph, faces: &Faces) -> Result
     ensures plan { IfOk result (λ plan. IsPlan graph.old.edges (trails_by graph.old.edges plan)) }
     ensures in_order { IfOk result (λ plan. (order : List ℕ) × IsBurningOrder faces.now.parents order
         × (shares : List (List (List HalfEdge))) × AreShares graph.old.edges graph.old.marks order shares
+        × EndAtFirstStarts graph.old.edges graph.old.marks order shares
         × (trails_by graph.old.edges plan ≡ trails_of shares)) }
     ensures within { IfOk result (λ plan. All (All (λ s. s < length (half_edges_of graph.old.edges))) plan) }
     ensures burnt { OnOk result ((s : ℕ) → s < length (half_edges_of graph.old.edges) → IsBurnt graph.new s) }

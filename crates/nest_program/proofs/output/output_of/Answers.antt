@@ -19,12 +19,13 @@ returns-clause-ok c =
     let report = c.in_ok-report.report in
     let is_shown : graph.edges ≡ edges = c.in_ok-graph.ensures.edges in
     let same : c.cover_all.new.graph.edges ≡ graph.edges = ap (λ (g : Graph). g.edges) c.cover_all.ensures.same in
-    let (order, is_order, shares, are_shares, are) = c.in_ok-plan.ensures.in_order in
+    let (order, is_order, shares, are_shares, ends, are) = c.in_ok-plan.ensures.in_order in
     let planned : IsPlanned graph.edges graph.marks c.in_ok-faces.faces.parents order shares report = record {
       are_marks = subst (λ (e : List Edge). AreMarks e graph.marks) (sym is_shown) c.in_ok-graph.ensures.marks;
       are_parents = c.in_ok-faces.ensures.parents;
       is_order = is_order;
       are_shares = are_shares;
+      ends = ends;
       plan = subst (IsPlan graph.edges) are c.in_ok-plan.ensures.plan;
       reported = report_from graph.edges c.cover_all.new.graph.edges same plan shares are report c.in_ok-report.ensures;
     } in

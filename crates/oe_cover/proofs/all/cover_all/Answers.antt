@@ -17,6 +17,7 @@ use Rattle.face_nesting.specs.Nesting.{ring_at}
 use Rattle.oe_cover.specs.Planning.{HasPlanned, planned}
 use Rattle.oe_cover.specs.Trails.{trails_by}
 use Rattle.oe_cover.proofs.Pieces.{pieces_hold}
+use Rattle.oe_cover.proofs.FirstEnds.{first_before}
 use Rattle.oe_cover.proofs.ComponentStarts.{HasStart, lawful_before}
 use Rattle.oe_cover.proofs.PlannedShares.{not_burnt_yet, one_more, all_are_plan, all_are_burnt}
 use Rattle.oe_cover.proofs.all.cover_all.Goals as goal
@@ -97,7 +98,9 @@ loop-c-preserved c =
     record {
       planning = c.cover.ensures.ready c.args.graph.now c.loop-c.invariant.planning;
       planned = one_more (numbers_of order) c.loop-c.c-index (get_or order c.loop-c.c-index (record { 0 = 0 })).0 c.first_start-start.result.0 (at_turn order c.loop-c.c-index c.loop-c-test.true)
-          (begins at.After-first_start-start (burns at.After-deref-c-items)) c.loop-c.planner c.cover.new.self c.loop-c.invariant.planned
+          (begins at.After-first_start-start (burns at.After-deref-c-items))
+          (first_before c.args.graph.now c.loop-c.graph (ring_at c.args.faces.now (get_or order c.loop-c.c-index (record { 0 = 0 })).0) c.first_start-start.result.0 c.loop-c.invariant.planning.graph c.first_start-start.ensures.first)
+          c.loop-c.planner c.cover.new.self c.loop-c.invariant.planned
           (c.cover.ensures.covered c.args.graph.now c.loop-c.invariant.planning);
     }
 
@@ -124,7 +127,7 @@ pub returns-clause-in_order : goal.returns-clause-in_order
 returns-clause-in_order c =
     let at = goal.at.returns-clause-in_order c in
     let is = all_planned at.After-finish in
-    (numbers_of c.deref-c-items.result.now, burns at.After-deref-c-items, is.shares, is.are_shares, ap (trails_by c.args.graph.now.edges) c.finish.ensures ∙ is.trails)
+    (numbers_of c.deref-c-items.result.now, burns at.After-deref-c-items, is.shares, is.are_shares, is.ends, ap (trails_by c.args.graph.now.edges) c.finish.ensures ∙ is.trails)
 
 pub returns-clause-burnt : goal.returns-clause-burnt
 returns-clause-burnt c s below =
