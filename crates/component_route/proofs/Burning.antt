@@ -154,10 +154,6 @@ burnt_more o x y done stack f b e = record {
   );
 }
 
--- another order of the same edges
-pub burnt_as : (o x : Graph) (l m : List ℕ) → l ≡ m → IsBurntBy o x l → IsBurntBy o x m
-burnt_as o x l m e b = subst (IsBurntBy o x) e b
-
 -- what the graph says of an edge, and the test
 pub test_of : (x : Graph) → IsRotation (rotation_of x) → (s : ℕ) → IsTrue (burnt_in x s) ↔ IsBurnt x s
 test_of x rot s = (
