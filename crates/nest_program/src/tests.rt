@@ -69,11 +69,14 @@ fn square_file(alloc: Global) -> Result<Vec<u8>, AllocError> {
     file_of(alloc, &[HEAD, SQUARE, TAIL], "\n")
 }
 
-/// A desk with the drawing in `a.dxf`, and room for the code and for what is printed.
-fn desk_with(alloc: Global, drawing: &[u8]) -> Result<MemoryDesk> {
+/// How many bytes of code most drawings here give at the most.
+const ROOM: usize = 1_000_000;
+
+/// A desk with the drawing in `a.dxf`, and so much room for the code.
+fn desk_with(alloc: Global, drawing: &[u8], room: usize) -> Result<MemoryDesk> {
     let mut desk = MemoryDesk::new(alloc);
     desk.put_file("a.dxf", drawing)?;
-    desk.reserve("a.ngc", 1_000_000)?;
+    desk.reserve("a.ngc", room)?;
     Ok(desk)
 }
 
@@ -83,36 +86,35 @@ fn plan(alloc: Global, desk: &mut MemoryDesk) -> Result<Status> {
     Ok(run(alloc, &words, desk))
 }
 
+/// The desk after the drawing was planned on it; there is so much room for the code.
+fn planned_desk(alloc: Global, what: &str, drawing: &[u8], room: usize) -> Result<MemoryDesk> {
+    let mut desk = desk_with(alloc, drawing, room)?;
+    let status = plan(alloc, &mut desk)?;
+    ensure!(matches!(status, Status::Done), "{what}: {status:?}");
+    ensure!(status.code() == 0, "{what}");
+    Ok(desk)
+}
+
 /// Whether the drawing gives this code and this report.
 fn is_planned(alloc: Global, what: &str, drawing: &[u8], code: &str, report: &str) -> Result<()> {
-    let mut desk = desk_with(alloc, drawing)?;
-    let status = plan(alloc, &mut desk)?;
+    let desk = planned_desk(alloc, what, drawing, ROOM)?;
     let printed = str::from_utf8(desk.printed())?;
     ensure!(printed == report, "{what}: {printed}");
     ensure!(desk.file("a.ngc") == Some(code.as_bytes()), "{what}");
-    ensure!(matches!(status, Status::Done), "{what}: {status:?}");
-    ensure!(status.code() == 0, "{what}");
     Ok(())
 }
 
 /// Whether the drawing is planned with this report, whatever its code is.
 fn is_reported(alloc: Global, what: &str, drawing: &[u8], report: &str) -> Result<()> {
-    let mut desk = desk_with(alloc, drawing)?;
-    let status = plan(alloc, &mut desk)?;
+    let desk = planned_desk(alloc, what, drawing, ROOM)?;
     let printed = str::from_utf8(desk.printed())?;
     ensure!(printed == report, "{what}: {printed}");
-    ensure!(matches!(status, Status::Done), "{what}: {status:?}");
     Ok(())
 }
 
 /// Whether the drawing is planned, whatever its code and its report are; there is so much room for the code.
 fn is_planned_at_all(alloc: Global, what: &str, drawing: &[u8], room: usize) -> Result<()> {
-    let mut desk = MemoryDesk::new(alloc);
-    desk.put_file("a.dxf", drawing)?;
-    desk.reserve("a.ngc", room)?;
-    let status = plan(alloc, &mut desk)?;
-    ensure!(matches!(status, Status::Done), "{what}: {status:?}");
-    ensure!(status.code() == 0, "{what}");
+    let desk = planned_desk(alloc, what, drawing, room)?;
     ensure!(desk.printed().starts_with(b"component 1 edges "), "{what}");
     let is_code = match desk.file("a.ngc") {
         Some(code) => code.starts_with(b"G21 G90\nF1000 S1\nG0 ") && code.ends_with(b"M5\nM2\n"),
@@ -124,7 +126,7 @@ fn is_planned_at_all(alloc: Global, what: &str, drawing: &[u8], room: usize) -> 
 
 /// Whether the drawing is refused, with this behind the printed word `refused`.
 fn is_refused(alloc: Global, what: &str, drawing: &[u8], why: &str) -> Result<()> {
-    let mut desk = desk_with(alloc, drawing)?;
+    let mut desk = desk_with(alloc, drawing, ROOM)?;
     let status = plan(alloc, &mut desk)?;
     let expected = format!(in alloc; "refused {why}\n")?;
     let printed = str::from_utf8(desk.printed())?;
@@ -161,7 +163,7 @@ fn other_words_print_the_usage(rt: HostRuntime) -> Result<()> {
         &["replay", "a.dxf", "a.ngc"],
     ];
     for texts in cases {
-        let mut desk = desk_with(alloc, &square_file(alloc)?)?;
+        let mut desk = desk_with(alloc, &square_file(alloc)?, ROOM)?;
         let status = run(alloc, &words_of(alloc, texts)?, &mut desk);
         ensure!(matches!(status, Status::Words) && status.code() == 2);
         ensure!(desk.printed() == b"usage: plan IN OUT\n".as_slice());
@@ -183,7 +185,7 @@ fn each_call_of_the_desk_fails_in_turn(rt: HostRuntime) -> Result<()> {
         (5, Status::Done, SQUARE_REPORT, Some(SQUARE_CODE.as_bytes())),
     ];
     for (number, expected, printed, code) in cases {
-        let mut desk = desk_with(alloc, &drawing)?;
+        let mut desk = desk_with(alloc, &drawing, ROOM)?;
         desk.fail_call(number)?;
         let status = plan(alloc, &mut desk)?;
         ensure!(status.code() == expected.code(), "{number}: {status:?}");
@@ -196,7 +198,7 @@ fn each_call_of_the_desk_fails_in_turn(rt: HostRuntime) -> Result<()> {
 #[test]
 fn faults_of_reading_and_of_the_fault_line(rt: HostRuntime) -> Result<()> {
     let alloc = rt.alloc();
-    let mut desk = desk_with(alloc, b"")?;
+    let mut desk = desk_with(alloc, b"", ROOM)?;
     let words = words_of(alloc, &["plan", "absent.dxf", "a.ngc"])?;
     let status = run(alloc, &words, &mut desk);
     ensure!(matches!(status, Status::ReadFault) && status.code() == 3);
