@@ -1,12 +1,12 @@
 -- How many components lie in each one, counted one component after another.
-use Rattle.std.proofs.Common.{arith, ◌≡◌, ℕ, ◌+◌, ◌<◌, ◌≤◌, inl, inr, cond, List, [], length, set, drop, replicate, length-set, refl, sym, ap, subst, ◌∙◌}
+use Rattle.std.proofs.Common.{arith, ◌≡◌, ℕ, ◌+◌, ◌<◌, ◌≤◌, inl, inr, cond, List, [], length, set, drop, length-set, refl, sym, ap, subst, ◌∙◌}
 use Rattle.std.specs.Prelude.{Option, None, Some, slice_get}
-use Rattle.std.proofs.lemmas.Option.{same_Some, slice_get_within, slice_get-get_or, get_or_from_slice_get}
-use Rattle.std.proofs.lemmas.List.{drop_more, drop_all, length-replicate, get_or-replicate}
+use Rattle.std.proofs.lemmas.Option.{same_Some, slice_get_within, get_or_from_slice_get}
+use Rattle.std.proofs.lemmas.List.{drop_more, drop_all}
 use Rattle.std.proofs.lemmas.Bool.Decides.{eqb_tells}
 use Rattle.burning_order.specs.Turns.{is_parent, unfinished, weight_from, waiting_for, AreWaitedFor}
 use Rattle.burning_order.proofs.Waiting.{waiting_few, parent_is, parent_other}
-use Rattle.burning_order.proofs.Written.{read_written, read_unwritten}
+use Rattle.nest_base.proofs.ListReads.{read_written, read_unwritten}
 
 -- how many of the components from first on lie in p
 abbrev pub from_first : List (Option ℕ) → ℕ → ℕ → ℕ
@@ -16,12 +16,6 @@ from_first parents first p = weight_from (unfinished []) first (drop first paren
 pub record AreCounted (parents : List (Option ℕ)) (first : ℕ) (children : List ℕ) : Type 0 where
   pub as_many : length children ≡ length parents
   pub each : (p : ℕ) → p < length parents → (n : ℕ) × (slice_get children p ≡ Some n) × (n + from_first parents first p ≡ waiting_for parents [] p)
-
-pub none_is_counted : (parents : List (Option ℕ)) (n : ℕ) → n ≡ length parents → AreCounted parents 0 (replicate n 0)
-none_is_counted parents n many = record {
-  as_many = length-replicate n 0 ∙ many;
-  each = λ p within. (0, slice_get-get_or (replicate n 0) p 0 (omega (arith, length-replicate {A = ℕ} n 0, many, within)) ∙ ap Some (get_or-replicate n p 0 0 (omega (arith, many, within))), omega arith);
-}
 
 pub all_are_counted : (parents : List (Option ℕ)) (first : ℕ) (children : List ℕ) → AreCounted parents first children → length parents ≤ first → AreWaitedFor parents [] children
 all_are_counted parents first children counted far = record {

@@ -3,11 +3,12 @@ use Rattle.std.proofs.Common.{arith, ◌≡◌, ℕ, ◌+◌, ◌-◌, ◌<◌, 
 use Rattle.std.specs.Prelude.{Contains, Option, None, Some, slice_get}
 use Rattle.std.proofs.lemmas.Option.{same_Some, none-some, slice_get_within, slice_get-get_or}
 use Rattle.std.proofs.lemmas.Bool.Decides.{eqb_tells}
-use Rattle.plate_nesting.specs.Order.{LiesIn, ParentsComeFirst, IsReadyAfter}
-use Rattle.burning_order.specs.Turns.{waiting_for, AreWaitedFor, IsFront, IsTurnOf}
-use Rattle.burning_order.proofs.Fronts.{pushed_is_there, there_after_push, front_goes_on, ready_before, children_are_finished}
+use Rattle.std.proofs.lemmas.List.Elements.{Contains-push_cases, Contains-push}
+use Rattle.plate_nesting.specs.Order.{LiesIn, ParentsComeFirst, IsReadyAfter, IsFront}
+use Rattle.burning_order.specs.Turns.{waiting_for, AreWaitedFor, HaveHadTurns}
+use Rattle.plate_nesting.proofs.Fronts.{front_goes_on, ready_before, children_are_finished}
 use Rattle.burning_order.proofs.Waiting.{waiting_of_parent, waiting_of_other, all_are_finished}
-use Rattle.burning_order.proofs.Written.{read_written, read_unwritten}
+use Rattle.nest_base.proofs.ListReads.{read_written, read_unwritten}
 use Rattle.burning_order.proofs.Scan.{count_is, ready_waits_for_none}
 
 -- c is ready, and no other up to the leaf
@@ -31,7 +32,7 @@ record IsBurnt (parents : List (Option ℕ)) (leaf c : ℕ) (finished : List ℕ
   pub others : (d : ℕ) → IsReadyAfter parents finished d → LiesIn parents c d ⊎ (leaf < d)
   pub below : (d : ℕ) → Contains finished d → d ≤ leaf
 
-pub leaf_is_next : (parents : List (Option ℕ)) (leaf : ℕ) (finished waiting : List ℕ) → IsTurnOf parents leaf finished waiting → IsReadyAfter parents finished leaf →
+pub leaf_is_next : (parents : List (Option ℕ)) (leaf : ℕ) (finished waiting : List ℕ) → HaveHadTurns parents leaf finished waiting → IsReadyAfter parents finished leaf →
     IsNextOf parents leaf leaf finished waiting
 leaf_is_next parents leaf finished waiting turn ready = record {
   front = turn.front;
@@ -62,11 +63,11 @@ burnt parents leaf c finished waiting next = record {
   others = λ d ready. elim (lies_or_not (slice_get parents c) d) [
     | inl lies ↦ inl lies
     | inr other ↦ elim (next.others d (ready_before parents finished c d ready other)) [
-      | inl same ↦ absurd (ready.unfinished (subst (Contains (finished ++ c ∷ [])) same (pushed_is_there finished c)))
+      | inl same ↦ absurd (ready.unfinished (subst (Contains (finished ++ c ∷ [])) same (Contains-push finished c)))
       | inr less ↦ inr less
     ]
   ];
-  below = λ d there. elim (there_after_push finished c d there) [ inl before ↦ next.below d before | inr is ↦ subst (λ n. n ≤ leaf) is next.reached ];
+  below = λ d there. elim (Contains-push_cases finished c d there) [ inl before ↦ next.below d before | inr is ↦ subst (λ n. n ≤ leaf) is next.reached ];
 }
 
 -- the parent of the one that was burnt last waits for one fewer
@@ -100,7 +101,7 @@ parent_waits parents leaf c p n finished waiting next parent =
 
 -- the outermost is burnt: the next turn
 pub outermost : (parents : List (Option ℕ)) (leaf c : ℕ) (finished waiting : List ℕ) → IsNextOf parents leaf c finished waiting → slice_get parents c ≡ Some None →
-    IsTurnOf parents (leaf + 1) (finished ++ c ∷ []) waiting
+    HaveHadTurns parents (leaf + 1) (finished ++ c ∷ []) waiting
 outermost parents leaf c finished waiting next at =
     let now = burnt parents leaf c finished waiting next in
     record {
@@ -118,7 +119,7 @@ count_left parents waiting c p n parent =
 
 -- the parent waits for others: the next turn
 pub parent_not_ready : (parents : List (Option ℕ)) (leaf c p n : ℕ) (finished waiting : List ℕ) → IsNextOf parents leaf c finished waiting → HasCountFor parents waiting c p n →
-    0 < get_or (set waiting p (n - 1)) p 0 → IsTurnOf parents (leaf + 1) (finished ++ c ∷ []) (set waiting p (n - 1))
+    0 < get_or (set waiting p (n - 1)) p 0 → HaveHadTurns parents (leaf + 1) (finished ++ c ∷ []) (set waiting p (n - 1))
 parent_not_ready parents leaf c p n finished waiting next parent some =
     let now = burnt parents leaf c finished waiting next in
     let counted = waited_less parents finished waiting c p n next.counted parent next.ready.unfinished in
@@ -145,7 +146,7 @@ parent_is_next parents leaf c p n finished waiting first next parent none =
       counted = counted;
       ready = record {
         within = parent.within;
-        unfinished = λ there. elim (there_after_push finished c p there) [
+        unfinished = λ there. elim (Contains-push_cases finished c p there) [
           | inl before ↦ next.ready.unfinished (children_are_finished parents finished p c next.front before parent.lies)
           | inr is ↦ omega (arith, is, first c p parent.lies)
         ];

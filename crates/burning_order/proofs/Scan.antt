@@ -1,11 +1,9 @@
 -- The scan: whose turn it is, and that all are finished once each has had its turn.
-use Rattle.std.proofs.Common.{arith, ◌≡◌, ℕ, zero, suc, ◌+◌, ◌<◌, ◌≤◌, inl, inr, List, [], length, eq-or-lt_of_le, sym, subst, ◌∙◌}
+use Rattle.std.proofs.Common.{arith, ◌≡◌, ℕ, zero, suc, ◌+◌, ◌<◌, ◌≤◌, inl, inr, List, length, eq-or-lt_of_le, sym, subst, ◌∙◌}
 use Rattle.std.specs.Prelude.{Contains, Option, Some, slice_get}
 use Rattle.std.proofs.lemmas.Option.{same_Some, slice_get_within}
-use Rattle.nest_base.proofs.Lists.{Contains-none}
 use Rattle.plate_nesting.specs.Order.{LiesIn, ParentsComeFirst, IsReadyAfter, IsBurningOrder}
-use Rattle.burning_order.specs.Turns.{waiting_for, AreWaitedFor, IsTurnOf}
-use Rattle.burning_order.proofs.Fronts.{front_begins}
+use Rattle.burning_order.specs.Turns.{waiting_for, AreWaitedFor, HaveHadTurns}
 use Rattle.burning_order.proofs.Waiting.{is_finished, waits_for_none, all_are_finished}
 
 -- the count that stands in the list is the number of those waited for
@@ -19,17 +17,9 @@ pub ready_waits_for_none : (parents : List (Option ℕ)) (finished waiting : Lis
 ready_waits_for_none parents finished waiting p n counted ready at =
     sym (count_is parents finished waiting p n counted ready.within at) ∙ waits_for_none parents finished p ready.children
 
-pub turn_begins : (parents : List (Option ℕ)) (waiting : List ℕ) → AreWaitedFor parents [] waiting → IsTurnOf parents 0 [] waiting
-turn_begins parents waiting counted = record {
-  front = front_begins parents;
-  counted = counted;
-  had = λ d ready. omega arith;
-  below = λ d there. absurd (Contains-none d there);
-}
-
 -- the turn goes by of one that waits for others
-pub turn_passes : (parents : List (Option ℕ)) (c : ℕ) (finished waiting : List ℕ) (n : ℕ) → IsTurnOf parents c finished waiting → slice_get waiting c ≡ Some n → 0 < n →
-    IsTurnOf parents (c + 1) finished waiting
+pub turn_passes : (parents : List (Option ℕ)) (c : ℕ) (finished waiting : List ℕ) (n : ℕ) → HaveHadTurns parents c finished waiting → slice_get waiting c ≡ Some n → 0 < n →
+    HaveHadTurns parents (c + 1) finished waiting
 turn_passes parents c finished waiting n turn at some = record {
   front = turn.front;
   counted = turn.counted;
@@ -44,7 +34,7 @@ turn_passes parents c finished waiting n turn at some = record {
     later d ready at_least = elim (eq-or-lt_of_le at_least) [ inl same ↦ absurd (not_this (subst (IsReadyAfter parents finished) (sym same) ready)) | inr less ↦ omega (arith, less) ]
 
 -- one that waits for none is ready when its turn comes
-pub leaf_is_ready : (parents : List (Option ℕ)) (c : ℕ) (finished waiting : List ℕ) → IsTurnOf parents c finished waiting → c < length parents →
+pub leaf_is_ready : (parents : List (Option ℕ)) (c : ℕ) (finished waiting : List ℕ) → HaveHadTurns parents c finished waiting → c < length parents →
     slice_get waiting c ≡ Some 0 → IsReadyAfter parents finished c
 leaf_is_ready parents c finished waiting turn within at = record {
   within = within;
@@ -53,7 +43,7 @@ leaf_is_ready parents c finished waiting turn within at = record {
 }
 
 -- once each has had its turn all are finished: of those that aren't, the greatest would be ready
-pub all_are_burnt : (parents : List (Option ℕ)) (end : ℕ) (order waiting : List ℕ) → ParentsComeFirst parents → IsTurnOf parents end order waiting → length parents ≤ end →
+pub all_are_burnt : (parents : List (Option ℕ)) (end : ℕ) (order waiting : List ℕ) → ParentsComeFirst parents → HaveHadTurns parents end order waiting → length parents ≤ end →
     IsBurningOrder parents order
 all_are_burnt parents end order waiting first turn last = record {
   ready = turn.front.ready;

@@ -6,10 +6,9 @@ use Rattle.std.specs.Bool.{nat_eq, Decides}
 use Rattle.std.proofs.lemmas.Bool.Decides.{Decides-eqb}
 use Rattle.std.proofs.lemmas.Map.Made.{is_member-Decides}
 use Rattle.std.proofs.lemmas.Option.{same_Some, none-some}
-use Rattle.std.proofs.lemmas.List.Elements.{Contains-append_left}
+use Rattle.std.proofs.lemmas.List.Elements.{Contains-append_left, Contains-push_cases, Contains-push}
 use Rattle.plate_nesting.specs.Order.{LiesIn}
 use Rattle.burning_order.specs.Turns.{is_parent, unfinished, weight_from, waiting_for}
-use Rattle.burning_order.proofs.Fronts.{pushed_is_there, there_after_push}
 
 -- a component is finished, or it isn't
 pub is_finished : (finished : List ℕ) (k : ℕ) → Contains finished k ⊎ (Contains finished k → ⊥)
@@ -117,12 +116,12 @@ waiting_less parents order c p parent at undone =
     weight_less (unfinished order) (unfinished (order ++ c ∷ [])) 0 parents p c c parent at (omega arith) less other
   where
     less : unfinished order c ≡ unfinished (order ++ c ∷ []) c + 1
-    less = unfinished-yes order c undone ∙ ap (λ n. n + 1) (sym (unfinished-no (order ++ c ∷ []) c (pushed_is_there order c)))
+    less = unfinished-yes order c undone ∙ ap (λ n. n + 1) (sym (unfinished-no (order ++ c ∷ []) c (Contains-push order c)))
 
     other : (k : ℕ) → (k ≡ c → ⊥) → unfinished order k ≡ unfinished (order ++ c ∷ []) k
     other k apart = elim (is_finished order k) [
       | inl there ↦ unfinished-no order k there ∙ sym (unfinished-no (order ++ c ∷ []) k (Contains-append_left order (c ∷ []) k there))
-      | inr none ↦ unfinished-yes order k none ∙ sym (unfinished-yes (order ++ c ∷ []) k (λ pushed. elim (there_after_push order c k pushed) [ inl there ↦ none there | inr is ↦ apart (sym is) ]))
+      | inr none ↦ unfinished-yes order k none ∙ sym (unfinished-yes (order ++ c ∷ []) k (λ pushed. elim (Contains-push_cases order c k pushed) [ inl there ↦ none there | inr is ↦ apart (sym is) ]))
     ]
 
 -- the parent's own count, and that of any other

@@ -1,8 +1,8 @@
 -- How far the order is found when the turn of a component comes, and for how many others each component still waits.
-use Rattle.std.specs.Prelude.{◌≡◌, ℕ, ◌+◌, ◌==◌, ◌<◌, ◌≤◌, Bool, false, cond, List, [], ◌∷◌, ◌++◌, Option, None, Some, Contains, length, slice_get}
+use Rattle.std.specs.Prelude.{◌≡◌, ℕ, ◌+◌, ◌==◌, ◌<◌, ◌≤◌, Bool, false, cond, List, [], ◌∷◌, Option, None, Some, Contains, length, slice_get}
 use Rattle.std.specs.Set.{is_member}
 use Rattle.std.specs.Bool.{nat_eq}
-use Rattle.plate_nesting.specs.Order.{IsReadyAfter}
+use Rattle.plate_nesting.specs.Order.{IsReadyAfter, IsFront}
 
 -- whether p is this parent
 abbrev pub is_parent : Option ℕ → ℕ → Bool
@@ -27,14 +27,8 @@ pub record AreWaitedFor (parents : List (Option ℕ)) (finished waiting : List �
   pub as_many : length waiting ≡ length parents
   pub each : (p : ℕ) → p < length parents → slice_get waiting p ≡ Some (waiting_for parents finished p)
 
--- so far at each turn the least of those that are ready
-pub record IsFront (parents : List (Option ℕ)) (order : List ℕ) : Type 0 where
-  pub ready : (finished : List ℕ) (c : ℕ) (later : List ℕ) → order ≡ finished ++ c ∷ later → IsReadyAfter parents finished c
-  pub least : (finished : List ℕ) (c : ℕ) (later : List ℕ) → order ≡ finished ++ c ∷ later →
-      (d : ℕ) → IsReadyAfter parents finished d → c ≤ d
-
 -- each component below c has had its turn: none of them is ready still, and they alone are finished
-pub record IsTurnOf (parents : List (Option ℕ)) (c : ℕ) (finished waiting : List ℕ) : Type 0 where
+pub record HaveHadTurns (parents : List (Option ℕ)) (c : ℕ) (finished waiting : List ℕ) : Type 0 where
   pub front : IsFront parents finished
   pub counted : AreWaitedFor parents finished waiting
   pub had : (d : ℕ) → IsReadyAfter parents finished d → c ≤ d

@@ -7,7 +7,6 @@
 //! It stands on the numbers of components alone: any parents with lesser numbers give an order, and only one.
 #![tactic(auto)]
 
-pub mod laws;
 pub mod order;
 #[cfg(test)]
 mod tests;

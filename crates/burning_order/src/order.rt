@@ -1,17 +1,18 @@
 //! The burning order.
 ghost use Rattle.std.specs.Prelude.{◌≤◌, ◌+◌, [], length, IfOk, OnOk};
 ghost use Rattle.plate_nesting.specs.Order.{ParentsComeFirst, IsReadyAfter, IsBurningOrder};
-ghost use Rattle.burning_order.specs.NumbersOf.{numbers_of, parent_numbers_of};
-ghost use Rattle.burning_order.specs.Turns.{AreWaitedFor, IsTurnOf};
+ghost use Rattle.nest_base.specs.NumberLists.{parent_numbers, component_numbers};
+ghost use Rattle.nest_base.specs.Limits.{most_half_edges};
+ghost use Rattle.burning_order.specs.Turns.{AreWaitedFor, HaveHadTurns};
 
 use nest_base::{Component, OutOfMemory};
 use std::alloc::Global;
 
 /// How many components lie in each one.
 fn children_of(alloc: Global, parents: &[Option<Component>]) -> Result<Vec<u32>, OutOfMemory>
-    requires few { length parents.now ≤ 4000000 }
-    requires first { ParentsComeFirst (parent_numbers_of parents.now) }
-    ensures { IfOk result (λ children. AreWaitedFor (parent_numbers_of parents.now) [] children.items) }
+    requires few { length parents.now ≤ most_half_edges }
+    requires first { ParentsComeFirst (parent_numbers parents.now) }
+    ensures { IfOk result (λ children. AreWaitedFor (parent_numbers parents.now) [] children.items) }
 {
     let mut children = vec![in alloc; 0; parents.len()]?;
     for parent in parents {
@@ -29,11 +30,11 @@ fn burn_outward(
     waiting: &mut [u32],
     order: &mut Vec<Component>,
 ) -> Result<(), OutOfMemory>
-    requires few { length parents.now ≤ 4000000 }
-    requires first { ParentsComeFirst (parent_numbers_of parents.now) }
-    requires turn { IsTurnOf (parent_numbers_of parents.now) leaf.0 (numbers_of order.old.items) waiting.old }
-    requires ready { IsReadyAfter (parent_numbers_of parents.now) (numbers_of order.old.items) leaf.0 }
-    ensures { OnOk result (IsTurnOf (parent_numbers_of parents.now) (leaf.0 + 1) (numbers_of order.new.items) waiting.new) }
+    requires few { length parents.now ≤ most_half_edges }
+    requires first { ParentsComeFirst (parent_numbers parents.now) }
+    requires turn { HaveHadTurns (parent_numbers parents.now) leaf.0 (component_numbers order.old.items) waiting.old }
+    requires ready { IsReadyAfter (parent_numbers parents.now) (component_numbers order.old.items) leaf.0 }
+    ensures { OnOk result (HaveHadTurns (parent_numbers parents.now) (leaf.0 + 1) (component_numbers order.new.items) waiting.new) }
 {
     let mut c = leaf;
     loop {
@@ -57,9 +58,9 @@ pub fn burning_order(
     alloc: Global,
     parents: &[Option<Component>],
 ) -> Result<Vec<Component>, OutOfMemory>
-    requires few { length parents.now ≤ 4000000 }
-    requires first { ParentsComeFirst (parent_numbers_of parents.now) }
-    ensures { IfOk result (λ order. IsBurningOrder (parent_numbers_of parents.now) (numbers_of order.items)) }
+    requires few { length parents.now ≤ most_half_edges }
+    requires first { ParentsComeFirst (parent_numbers parents.now) }
+    ensures { IfOk result (λ order. IsBurningOrder (parent_numbers parents.now) (component_numbers order.items)) }
 {
     let mut waiting = children_of(alloc, parents)?;
     let mut order = Vec::new(alloc);

@@ -2,8 +2,8 @@ mod Bytes
 mod WrittenLines
 mod LineWords
 mod CodeLines
-pub mod Places
 mod Pieces
 mod Steps
+pub mod BurntLegs
 mod Chains
 pub mod WrittenCode

@@ -11,7 +11,7 @@ use Rattle.std.proofs.lemmas.List.Elements.{All-from_recursion, filter-append}
 use Rattle.std.proofs.lemmas.List.Splits.{slice_split_none}
 use Rattle.nest_base.specs.Lines.{is_blank}
 use Rattle.micron_decimals.specs.Decimals.{plain_of}
-use Rattle.code_moves.specs.Words.{Word, is_open, is_close, are_commented, uncommented, bare, words_of, are_words, Content, Words, content_in, mark_or_words, content_of}
+use Rattle.code_moves.specs.Words.{Word, opens_comment, closes_comment, are_commented, uncommented, bare, words_of, are_words, Content, Words, content_in, mark_or_words, content_of}
 use Rattle.micron_decimals.proofs.Bytes.{NonePass, all_imply, all-append, before_first_none, before_first_at}
 use Rattle.code_moves.proofs.Bytes.{count_by_none}
 use Rattle.micron_decimals.proofs.WrittenNumbers.{NumberBytes, number_has_no_blank}
@@ -127,23 +127,23 @@ tight_line : (ws : List Word) → AllByRecursion IsWord ws → tight (line_text 
 tight_line [] h = refl
 tight_line (w ∷ ws) h = filter-append (λ b. not (is_blank b)) (word_text w) (flat_map spaced ws) ∙ ap (λ r. r ++ tight (flat_map spaced ws)) (tight_word w h.0) ∙ ap (λ r. word_text w ++ r) (tight_more ws h.1)
 
-content_by : (line text : List ℕ) (c : Content) → length line ≤ 256 → NonePass is_open line → NonePass is_close line → tight line ≡ text → mark_or_words text ≡ Some c → content_of line ≡ Some c
+content_by : (line text : List ℕ) (c : Content) → length line ≤ 256 → NonePass opens_comment line → NonePass closes_comment line → tight line ≡ text → mark_or_words text ≡ Some c → content_of line ≡ Some c
 content_by line text c s o k e m =
-    let one_part = slice_split_none is_open line (All-from_recursion (λ b. is_open b ≡ false) line o) in
-    let commented = ap are_commented one_part ∙ and_from (count_by is_close line == 0) true (eq-eqb (count_by is_close line) 0 (count_by_none is_close line k)) refl in
+    let one_part = slice_split_none opens_comment line (All-from_recursion (λ b. opens_comment b ≡ false) line o) in
+    let commented = ap are_commented one_part ∙ and_from (count_by closes_comment line == 0) true (eq-eqb (count_by closes_comment line) 0 (count_by_none closes_comment line k)) refl in
     let rest = ap (λ parts. tight (uncommented parts)) one_part ∙ ap tight (append-nil line) ∙ e in
-    kept (nat_le (length line) 256 && are_commented (slice_split is_open line)) (bare line) text c
-    (and_from (nat_le (length line) 256) (are_commented (slice_split is_open line)) (le-leb (length line) 256 s) commented) rest m
+    kept (nat_le (length line) 256 && are_commented (slice_split opens_comment line)) (bare line) text c
+    (and_from (nat_le (length line) 256) (are_commented (slice_split opens_comment line)) (le-leb (length line) 256 s) commented) rest m
   where
     kept : (t : Bool) (found text : List ℕ) (c : Content) → t ≡ true → found ≡ text → mark_or_words text ≡ Some c → cond t (mark_or_words found) None ≡ Some c
     kept t found text c a e m = rw (a, e) m
 
 -- the line is read as its words
 pub content_of-line : (ws : List Word) → AllByRecursion IsWord ws → length (line_text ws) ≤ 256 → content_of (line_text ws) ≡ Some (Words ws)
-content_of-line ws h s = content_by (line_text ws) (joined ws) (Words ws) s (none_in_line is_open no_open refl ws h) (none_in_line is_close no_close refl ws h) (tight_line ws h) (mark_or_words-joined ws h)
+content_of-line ws h s = content_by (line_text ws) (joined ws) (Words ws) s (none_in_line opens_comment no_open refl ws h) (none_in_line closes_comment no_close refl ws h) (tight_line ws h) (mark_or_words-joined ws h)
   where
-    no_open : (b : ℕ) → IsInRange 45 90 b → is_open b ≡ false
+    no_open : (b : ℕ) → IsInRange 45 90 b → opens_comment b ≡ false
     no_open b h = grind (arith, common_steps, h)
 
-    no_close : (b : ℕ) → IsInRange 45 90 b → is_close b ≡ false
+    no_close : (b : ℕ) → IsInRange 45 90 b → closes_comment b ≡ false
     no_close b h = grind (arith, common_steps, h)

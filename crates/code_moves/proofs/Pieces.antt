@@ -12,7 +12,7 @@ use Rattle.code_moves.specs.declared.faults.CodeError.{CodeError}
 use Rattle.code_moves.specs.declared.faults.CodeError.TheVariants.{NoEnd}
 use Rattle.code_moves.specs.Words.{Word, Content, Words}
 use Rattle.code_moves.specs.History.{is_lit, is_absolute, place_after, has_burnt, is_ended}
-use Rattle.code_moves.specs.Meaning.{moves_at, moves_from, content_or_empty, fault_of, or_fault, refusal_from}
+use Rattle.code_moves.specs.Meaning.{moves_at, moves_from, content_or_empty, line_fault, or_fault, refusal_from}
 use Rattle.code_moves.specs.Moves.{way, lit_moves}
 use Rattle.code_moves.proofs.LineWords.{line_text}
 use Rattle.code_moves.proofs.CodeLines.{IsLine, content_of-line_text}
@@ -20,17 +20,17 @@ use Rattle.code_moves.proofs.CodeLines.{IsLine, content_of-line_text}
 -- the first fault of lines whose words are known
 abbrev pub refusal_in : List Content → List Content → Option CodeError
 refusal_in earlier [] = Some (NoEnd (length earlier + 1))
-refusal_in earlier (l ∷ lines) = or_fault (fault_of (Some l) earlier) (length earlier + 1) (cond (is_ended (l ∷ earlier)) None (refusal_in (l ∷ earlier) lines))
+refusal_in earlier (l ∷ lines) = or_fault (line_fault (Some l) earlier) (length earlier + 1) (cond (is_ended (l ∷ earlier)) None (refusal_in (l ∷ earlier) lines))
 
 -- the same, from what a line holds
 abbrev refusal_at : Option Content → List Content → List (List ℕ) → Option CodeError
-refusal_at o earlier lines = or_fault (fault_of o earlier) (length earlier + 1) (cond (is_ended (unwrap_or o (Words []) ∷ earlier)) None (refusal_from (unwrap_or o (Words []) ∷ earlier) lines))
+refusal_at o earlier lines = or_fault (line_fault o earlier) (length earlier + 1) (cond (is_ended (unwrap_or o (Words []) ∷ earlier)) None (refusal_from (unwrap_or o (Words []) ∷ earlier) lines))
 
 -- lines of words have the faults and the moves of their words
 pub refusal_of_lines : (earlier : List Content) (lines : List (List Word)) → AllByRecursion IsLine lines → refusal_from earlier (map line_text lines) ≡ refusal_in earlier (map Words lines)
 refusal_of_lines earlier [] h = refl
 refusal_of_lines earlier (ws ∷ lines) h = ap (λ o. refusal_at o earlier (map line_text lines)) (content_of-line_text ws h.0)
-    ∙ ap (λ later. or_fault (fault_of (Some (Words ws)) earlier) (length earlier + 1) (cond (is_ended (Words ws ∷ earlier)) None later)) (refusal_of_lines (Words ws ∷ earlier) lines h.1)
+    ∙ ap (λ later. or_fault (line_fault (Some (Words ws)) earlier) (length earlier + 1) (cond (is_ended (Words ws ∷ earlier)) None later)) (refusal_of_lines (Words ws ∷ earlier) lines h.1)
 
 pub contents_of_lines : (lines : List (List Word)) → AllByRecursion IsLine lines → map content_or_empty (map line_text lines) ≡ map Words lines
 contents_of_lines [] h = refl
@@ -62,10 +62,10 @@ pub record Leads (earlier lines : List Content) (burns : List Move) (later : Lis
   pub accepted : (rest : List Content) → refusal_in earlier (lines ++ rest) ≡ refusal_in later rest
   pub burnt : (rest : List Content) → lit_moves (moves_from earlier (lines ++ rest)) ≡ burns ++ lit_moves (moves_from later rest)
 
-pub one_line_leads : (l : Content) (earlier : List Content) (burns : List Move) → fault_of (Some l) earlier ≡ None → is_ended (l ∷ earlier) ≡ false → lit_moves (moves_at l earlier) ≡ burns →
+pub one_line_leads : (l : Content) (earlier : List Content) (burns : List Move) → line_fault (Some l) earlier ≡ None → is_ended (l ∷ earlier) ≡ false → lit_moves (moves_at l earlier) ≡ burns →
     Leads earlier (l ∷ []) burns (l ∷ earlier)
 one_line_leads l earlier burns f e b = record {
-  accepted = λ rest. goes_on (fault_of (Some l) earlier) (length earlier + 1) (is_ended (l ∷ earlier)) (refusal_in (l ∷ earlier) rest) f e;
+  accepted = λ rest. goes_on (line_fault (Some l) earlier) (length earlier + 1) (is_ended (l ∷ earlier)) (refusal_in (l ∷ earlier) rest) f e;
   burnt = λ rest. burns_on (moves_at l earlier) burns (is_ended (l ∷ earlier)) (moves_from (l ∷ earlier) rest) b e;
 }
   where

@@ -1,18 +1,19 @@
 -- What single lines of written code do.
-use Rattle.std.proofs.Common.{◌≡◌, ◌≢◌, ℕ, ◌+◌, Bool, true, false, cond, List, [], ◌∷◌, ◌++◌, length, map, ℤ, Option, Some, None, refl, ap, ◌∙◌}
+use Rattle.std.proofs.Common.{◌≡◌, ℕ, ◌+◌, Bool, true, false, cond, List, [], ◌∷◌, ◌++◌, length, map, ℤ, Option, Some, None, refl, ap, ◌∙◌}
 use Rattle.std.specs.Prelude.{◌&&◌, ◌||◌, not}
 use Rattle.std.specs.Option.{option_map_or}
 use Rattle.std.proofs.lemmas.Bool.{and_from}
 use Rattle.nest_base.specs.declared.places.Point.{Point}
+use Rattle.nest_base.specs.Order.{is_place}
 use Rattle.nest_base.specs.Plane.{HalfEdge}
+use Rattle.nest_base.proofs.Points.{Decides-is_place}
 use Rattle.micron_decimals.specs.Decimals.{micron_of, micron_text}
 use Rattle.code_moves.specs.declared.moves.Move.{Move}
 use Rattle.code_moves.specs.declared.faults.CodeFault.TheVariants.{TooFar}
 use Rattle.code_moves.specs.Words.{Content, Words}
-use Rattle.code_moves.specs.History.{is_lit, is_absolute, axis_after, place_after, has_burnt, is_ended, is_moving, is_same_place}
-use Rattle.code_moves.specs.Meaning.{is_near, is_within, one_if, closing_move, closing_by_m5, made, moves_at, moves_from, fault_of, or_fault}
+use Rattle.code_moves.specs.History.{is_lit, is_absolute, axis_after, place_after, has_burnt, is_ended, is_moving}
+use Rattle.code_moves.specs.Meaning.{is_near, is_within, one_if, closing_move, closing_by_m5, made, moves_at, moves_from, line_fault, or_fault}
 use Rattle.code_moves.specs.Moves.{way, lit_moves}
-use Rattle.code_moves.proofs.Places.{same_place, other_place}
 use Rattle.code_moves.proofs.CodeLines.{travel, burn, torch_words}
 use Rattle.code_moves.proofs.Pieces.{Torch, unlit, burning, StandsBehind, one_line_leads, Done, Does, refusal_in}
 
@@ -66,9 +67,17 @@ burns_one : (was_burnt : Bool) (p q : Point) (n : ℕ) → lit_moves (moves_by t
 unfolding moves_by
 burns_one was_burnt p q n = refl
 
+staying_burns_nothing : (was_burnt : Bool) (p q : Point) (n : ℕ) → lit_moves (moves_by true true was_burnt false p q n) ≡ []
+unfolding moves_by
+staying_burns_nothing was_burnt p q n = refl
+
+spot_burns_one : (p q : Point) (n : ℕ) → lit_moves (moves_by true false false false p q n) ≡ closing_move p n ∷ []
+unfolding moves_by
+spot_burns_one p q n = refl
+
 -- what a line does that changes the torch so
 does_line : (l : Content) (earlier : List Content) (was_lit lit was_burnt moving : Bool) (p q : Point) (ways : List HalfEdge) (fresh : List Bool) (burns : List Move) →
-    is_absolute (l ∷ earlier) ≡ true → fault_of (Some l) earlier ≡ None → Changes l earlier was_lit lit was_burnt moving p q →
+    is_absolute (l ∷ earlier) ≡ true → line_fault (Some l) earlier ≡ None → Changes l earlier was_lit lit was_burnt moving p q →
     lit_moves (moves_by was_lit lit was_burnt moving p q (length earlier + 1)) ≡ burns → map way burns ≡ ways → map (λ (m : Move). m.fresh) burns ≡ fresh →
     Done earlier (l ∷ []) ways fresh (record { lit = lit; burnt = lit && (moving || was_burnt); place = q })
 does_line l earlier was_lit lit was_burnt moving p q ways fresh burns a f h b w r = record {
@@ -117,8 +126,8 @@ torch_within : (p place : Point) → IsCodePlace p → place ≡ p → (is_near 
 torch_within p place h e = rw e (and_from (is_near p.x) (is_near p.y) h.near_x h.near_y)
 
 -- it makes no move
-no_move : (earlier : List Content) → not (is_same_place (place_after earlier) (place_after earlier)) ≡ false
-no_move earlier = ap not (same_place (place_after earlier))
+no_move : (earlier : List Content) → not (is_place (place_after earlier) (place_after earlier)) ≡ false
+no_move earlier = ap not ((Decides-is_place (place_after earlier) (place_after earlier)).1 refl)
 
 -- lit by M3
 pub does_light : (p : Point) → IsCodePlace p → Does (unlit p) (torch_words 51 ∷ []) [] [] (burning false p)
@@ -128,19 +137,30 @@ does_light p h earlier s =
     (record { goes_on = refl; was_lit_is = s.lit; lit_is = refl; was_burnt_is = s.burnt; moving_is = no_move earlier; from_is = s.place; to_is = s.place })
     (lighting_burns_nothing p p (length earlier + 1)) refl refl
 
--- burning to q by G1; the move is fresh where none was made since the torch was lit
-pub does_burn : (was_burnt : Bool) (p q : Point) → p ≢ q → IsCodePlace q → Does (burning was_burnt p) (burn q ∷ []) (record { from = p; to = q } ∷ []) (not was_burnt ∷ []) (burning true q)
-does_burn was_burnt p q ne h earlier s =
+-- what G1 to q does while the torch is lit at p, by whether that is one place
+does_motion : (was_burnt moving : Bool) (p q : Point) → not (is_place q p) ≡ moving → IsCodePlace q → (ways : List HalfEdge) (fresh : List Bool) (burns : ℕ → List Move) →
+    ((n : ℕ) → (lit_moves (moves_by true true was_burnt moving p q n) ≡ burns n) × (map way (burns n) ≡ ways) × (map (λ (m : Move). m.fresh) (burns n) ≡ fresh)) →
+    Does (burning was_burnt p) (burn q ∷ []) ways fresh (burning (moving || was_burnt) q)
+does_motion was_burnt moving p q moves h ways fresh burns are earlier s =
     let l = Words (burn q) in
     let place = place_read (is_absolute earlier) (place_after earlier) q (micron_of (micron_text q.x)) (micron_of (micron_text q.y)) s.absolute h.read_x h.read_y in
     let within = within_range q (place_after (l ∷ earlier)) (micron_of (micron_text q.x)) (micron_of (micron_text q.y)) h place h.read_x h.read_y in
-    does_line l earlier true true was_burnt true p q (record { from = p; to = q } ∷ []) (not was_burnt ∷ [])
-    (record { from = p; to = q; lit = true; fresh = not was_burnt; line = length earlier + 1 } ∷ []) s.absolute (no_fault (is_within l earlier) within)
-    (record { goes_on = refl; was_lit_is = s.lit; lit_is = s.lit; was_burnt_is = s.burnt; moving_is = moves (place_after earlier) (place_after (l ∷ earlier)) s.place place; from_is = s.place; to_is = place })
-    (burns_one was_burnt p q (length earlier + 1)) refl refl
+    let here = are (length earlier + 1) in
+    does_line l earlier true true was_burnt moving p q ways fresh (burns (length earlier + 1)) s.absolute (no_fault (is_within l earlier) within)
+    (record { goes_on = refl; was_lit_is = s.lit; lit_is = s.lit; was_burnt_is = s.burnt; moving_is = same (place_after earlier) (place_after (l ∷ earlier)) s.place place; from_is = s.place; to_is = place })
+    here.0 here.1 here.2
   where
-    moves : (from to : Point) → from ≡ p → to ≡ q → not (is_same_place to from) ≡ true
-    moves from to e k = rw (e, k) (ap not (other_place p q ne))
+    same : (from to : Point) → from ≡ p → to ≡ q → not (is_place to from) ≡ moving
+    same from to e k = rw (e, k) moves
+
+-- burning to q by G1; the move is fresh where none was made since the torch was lit
+pub does_burn : (was_burnt : Bool) (p q : Point) → is_place q p ≡ false → IsCodePlace q → Does (burning was_burnt p) (burn q ∷ []) (record { from = p; to = q } ∷ []) (not was_burnt ∷ []) (burning true q)
+does_burn was_burnt p q other h = does_motion was_burnt true p q (ap not other) h (record { from = p; to = q } ∷ []) (not was_burnt ∷ [])
+    (λ n. record { from = p; to = q; lit = true; fresh = not was_burnt; line = n } ∷ []) (λ n. (burns_one was_burnt p q n, refl, refl))
+
+-- G1 to the place where the torch is burns nothing
+pub does_stay : (was_burnt : Bool) (p q : Point) → is_place q p ≡ true → IsCodePlace q → Does (burning was_burnt p) (burn q ∷ []) [] [] (burning was_burnt q)
+does_stay was_burnt p q one h = does_motion was_burnt false p q (ap not one) h [] [] (λ n. []) (λ n. (staying_burns_nothing was_burnt p q n, refl, refl))
 
 -- put out by M5, after a move
 pub does_put_out : (p : Point) → IsCodePlace p → Does (burning true p) (torch_words 53 ∷ []) [] [] (unlit p)
@@ -149,6 +169,14 @@ does_put_out p h earlier s =
     does_line l earlier true false true false p p [] [] [] s.absolute (no_fault (is_within l earlier) (torch_within p (place_after earlier) h s.place))
     (record { goes_on = refl; was_lit_is = s.lit; lit_is = refl; was_burnt_is = s.burnt; moving_is = no_move earlier; from_is = s.place; to_is = s.place })
     (putting_out_burns_nothing p p (length earlier + 1)) refl refl
+
+-- put out by M5 where no move was made since the torch was lit: this burns the spot
+pub does_put_out_on_spot : (p : Point) → IsCodePlace p → Does (burning false p) (torch_words 53 ∷ []) (record { from = p; to = p } ∷ []) (true ∷ []) (unlit p)
+does_put_out_on_spot p h earlier s =
+    let l = Words (torch_words 53) in
+    does_line l earlier true false false false p p (record { from = p; to = p } ∷ []) (true ∷ []) (closing_move p (length earlier + 1) ∷ []) s.absolute (no_fault (is_within l earlier) (torch_within p (place_after earlier) h s.place))
+    (record { goes_on = refl; was_lit_is = s.lit; lit_is = refl; was_burnt_is = s.burnt; moving_is = no_move earlier; from_is = s.place; to_is = s.place })
+    (spot_burns_one p p (length earlier + 1)) refl refl
 
 -- the program ends by M2 while the torch is out
 pub record Ends (earlier : List Content) : Type 0 where

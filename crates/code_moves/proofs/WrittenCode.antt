@@ -6,9 +6,8 @@ use Rattle.std.proofs.lemmas.List.{append-nil, map-append}
 use Rattle.std.proofs.lemmas.List.Elements.{recursion_from_All}
 use Rattle.nest_base.specs.declared.places.Point.{Point}
 use Rattle.nest_base.specs.Range.{IsWithin}
-use Rattle.nest_base.specs.Routes.{legs}
 use Rattle.code_moves.specs.declared.moves.Move.{Move}
-use Rattle.code_moves.specs.BurntChains.{IsChain, begins_lighting, BurnsChains}
+use Rattle.code_moves.specs.BurntChains.{CanBeWritten, burnt_legs, begins_lighting, BurnsChains}
 use Rattle.code_moves.specs.CodeText.{code_text}
 use Rattle.code_moves.specs.Meaning.{code_range, code_refusal_of, moves_of, refusal_from, moves_from, content_or_empty}
 use Rattle.code_moves.specs.Moves.{way, lit_moves}
@@ -17,19 +16,19 @@ use Rattle.micron_decimals.proofs.Bytes.{all_imply}
 use Rattle.code_moves.proofs.CodeLines.{IsWritable, head_lines, chain_lines, tail_lines, code_lines, code_is_lines, lines_of-code_text}
 use Rattle.code_moves.proofs.Pieces.{unlit, Done, then_done, refusal_in, refusal_of_lines, contents_of_lines}
 use Rattle.code_moves.proofs.Steps.{ends}
-use Rattle.code_moves.proofs.Chains.{writable, IsWrittenChain, written_chain, end_of_all, end_is_code_place, does_chains, origin, origin_is_code_place, does_head}
+use Rattle.code_moves.proofs.Chains.{writable, AreCodePlaces, written_chain, end_of_all, end_is_code_place, does_chains, origin, origin_is_code_place, does_head}
 
 -- all but the tail
 abbrev front_lines : List (List Point) → List (List Word)
 front_lines chains = head_lines ++ flat_map chain_lines chains
 
-does_front : (chains : List (List Point)) → AllByRecursion IsWrittenChain chains →
-    Done [] (map Words (front_lines chains)) (flat_map legs chains) (flat_map (λ places. begins_lighting (legs places)) chains) (unlit (end_of_all origin chains))
-does_front chains h = then_done [] (unlit origin) (unlit (end_of_all origin chains)) head_lines (flat_map chain_lines chains) [] (flat_map legs chains) [] (flat_map (λ places. begins_lighting (legs places)) chains)
+does_front : (chains : List (List Point)) → AllByRecursion AreCodePlaces chains →
+    Done [] (map Words (front_lines chains)) (flat_map burnt_legs chains) (flat_map (λ places. begins_lighting (burnt_legs places)) chains) (unlit (end_of_all origin chains))
+does_front chains h = then_done [] (unlit origin) (unlit (end_of_all origin chains)) head_lines (flat_map chain_lines chains) [] (flat_map burnt_legs chains) [] (flat_map (λ places. begins_lighting (burnt_legs places)) chains)
     does_head (does_chains origin chains h)
 
-all_writable : (chains : List (List Point)) → All IsChain chains → AllByRecursion (AllByRecursion IsWritable) chains
-all_writable chains h = all_imply IsChain (AllByRecursion IsWritable) (λ places chain. all_imply (IsWithin code_range) IsWritable writable places (recursion_from_All (IsWithin code_range) places chain.within)) chains (recursion_from_All IsChain chains h)
+all_writable : (chains : List (List Point)) → All CanBeWritten chains → AllByRecursion (AllByRecursion IsWritable) chains
+all_writable chains h = all_imply CanBeWritten (AllByRecursion IsWritable) (λ places within. all_imply (IsWithin code_range) IsWritable writable places (recursion_from_All (IsWithin code_range) places within)) chains (recursion_from_All CanBeWritten chains h)
 
 refusal_is : (chains : List (List Point)) → AllByRecursion (AllByRecursion IsWritable) chains → code_refusal_of (code_text chains) ≡ refusal_in [] (map Words (front_lines chains) ++ map Words tail_lines)
 unfolding code_refusal_of
@@ -40,9 +39,9 @@ unfolding moves_of
 moves_are chains h = ap (λ lines. moves_from [] (map content_or_empty lines)) (lines_of-code_text chains h) ∙ ap (moves_from []) (contents_of_lines (code_lines chains) (code_is_lines chains h)) ∙ ap (moves_from []) (map-append Words (front_lines chains) tail_lines)
 
 -- the theorem
-pub written_code_burns : (chains : List (List Point)) → All IsChain chains → BurnsChains chains (code_text chains)
+pub written_code_burns : (chains : List (List Point)) → All CanBeWritten chains → BurnsChains chains (code_text chains)
 written_code_burns chains h =
-    let written = all_imply IsChain IsWrittenChain written_chain chains (recursion_from_All IsChain chains h) in
+    let written = all_imply CanBeWritten AreCodePlaces written_chain chains (recursion_from_All CanBeWritten chains h) in
     let writable_places = all_writable chains h in
     let front = does_front chains written in
     let end = ends (end_of_all origin chains) front.later (end_is_code_place origin chains origin_is_code_place written) front.stands in

@@ -2,8 +2,8 @@
 use Rattle.std.specs.Prelude.{Bool, true, false, ◌&&◌, ◌||◌, not, if◌then◌else◌, List, [], ◌∷◌, find, ℤ, pos, ◌+ℤ◌, Option, Some, None}
 use Rattle.std.specs.List.{list_any}
 use Rattle.std.specs.Option.{option_map_or}
-use Rattle.std.specs.Ordering.{int_eq}
 use Rattle.nest_base.specs.declared.places.Point.{Point}
+use Rattle.nest_base.specs.Order.{is_place}
 use Rattle.code_moves.specs.Words.{Word, Content, Mark, Words, words_in, is_motion, is_distance, is_torch, is_end, is_g, is_m, axis_in}
 
 -- the line has no word and no `%`
@@ -55,14 +55,10 @@ abbrev pub place_after : List Content → Point
 place_after [] = record { x = pos 0; y = pos 0 }
 place_after (l ∷ earlier) = target (is_absolute (l ∷ earlier)) (words_in l) (place_after earlier)
 
--- the two places are one
-abbrev pub is_same_place : Point → Point → Bool
-is_same_place p q = int_eq p.x q.x && int_eq p.y q.y
-
 -- the latest line makes a move
 abbrev pub is_moving : List Content → Bool
 is_moving [] = false
-is_moving (l ∷ earlier) = not (is_same_place (place_after (l ∷ earlier)) (place_after earlier))
+is_moving (l ∷ earlier) = not (is_place (place_after (l ∷ earlier)) (place_after earlier))
 
 -- a line of the run of lit lines up to now made a move
 abbrev pub has_burnt : List Content → Bool

@@ -70,29 +70,29 @@ is_within l earlier =
     && is_near ((place_after (l ∷ earlier)).x) && is_near ((place_after (l ∷ earlier)).y)
 
 -- the fault of a line behind the earlier ones
-abbrev pub fault_of : Option Content → List Content → Option CodeFault
-fault_of None earlier = Some BadLine
-fault_of (Some l) earlier =
+abbrev pub line_fault : Option Content → List Content → Option CodeFault
+line_fault None earlier = Some BadLine
+line_fault (Some l) earlier =
     if not (is_lawful l earlier) then Some BadLine else
     (if not (list_all is_known (words_in l)) then Some UnknownWord else
     (if not (is_within l earlier) then Some TooFar else None))
 
 -- a fault, with the number of its line
-abbrev pub at_line : CodeFault → ℕ → CodeError
-at_line BadLine n = BadLineAt n
-at_line UnknownWord n = UnknownWordAt n
-at_line TooFar n = TooFarAt n
+abbrev pub error_at : CodeFault → ℕ → CodeError
+error_at BadLine n = BadLineAt n
+error_at UnknownWord n = UnknownWordAt n
+error_at TooFar n = TooFarAt n
 
 -- the fault of line n where it has one, else what comes later
 abbrev pub or_fault : Option CodeFault → ℕ → Option CodeError → Option CodeError
-or_fault (Some f) n later = Some (at_line f n)
+or_fault (Some f) n later = Some (error_at f n)
 or_fault None n later = later
 
 -- the first fault of these lines behind the earlier ones, before the end of the program
 abbrev pub refusal_from : List Content → List (List ℕ) → Option CodeError
 refusal_from earlier [] = Some (NoEnd (length earlier + 1))
 refusal_from earlier (line ∷ lines) =
-    or_fault (fault_of (content_of line) earlier) (length earlier + 1)
+    or_fault (line_fault (content_of line) earlier) (length earlier + 1)
     (if is_ended (content_or_empty line ∷ earlier) then None else refusal_from (content_or_empty line ∷ earlier) lines)
 
 -- why a code text is refused, or none

@@ -4,21 +4,21 @@ use Rattle.nest_base.specs.declared.places.Point.{Point}
 use Rattle.code_moves.specs.declared.moves.Move.{Move}
 
 -- a place, in micrometres
-abbrev pub place : ℕ → ℕ → Point
-place x y = record { x = pos x; y = pos y }
+abbrev pub point_at : ℕ → ℕ → Point
+point_at x y = record { x = pos x; y = pos y }
 
 -- its corners
 abbrev pub south_west : Point
-south_west = place 0 0
+south_west = point_at 0 0
 
 abbrev pub south_east : Point
-south_east = place 10000 0
+south_east = point_at 10000 0
 
 abbrev pub north_east : Point
-north_east = place 10000 10000
+north_east = point_at 10000 10000
 
 abbrev pub north_west : Point
-north_west = place 0 10000
+north_west = point_at 0 10000
 
 -- the one chain, from the north-west corner round to it
 abbrev pub square_chain : List Point
@@ -38,3 +38,14 @@ abbrev pub square_moves : List Move
 square_moves =
     move south_west north_west false false 3 ∷ move north_west north_east true true 5 ∷ move north_east south_east true false 6 ∷
     move south_east south_west true false 7 ∷ move south_west north_west true false 8 ∷ []
+
+-- the code of the same chain behind a lead-in that begins at its first vertex
+abbrev pub led_in_code : List ℕ
+led_in_code =
+    codes "G21 G90\nF1000 S1\nG0 X0.000 Y10.000\nM3\nG1 X0.000 Y10.000\nG1 X10.000 Y10.000\nG1 X10.000 Y0.000\nG1 X0.000 Y0.000\nG1 X0.000 Y10.000\nM5\nM2\n"
+
+-- the same moves, each a line later but for the first
+abbrev pub led_in_moves : List Move
+led_in_moves =
+    move south_west north_west false false 3 ∷ move north_west north_east true true 6 ∷ move north_east south_east true false 7 ∷
+    move south_east south_west true false 8 ∷ move south_west north_west true false 9 ∷ []

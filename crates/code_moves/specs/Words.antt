@@ -13,26 +13,26 @@ pub record Word : Type 0 where
   pub number : List ℕ
 
 -- `(` begins a comment
-abbrev pub is_open : ℕ → Bool
-is_open b = b == 40
+abbrev pub opens_comment : ℕ → Bool
+opens_comment b = b == 40
 
 -- `)` ends it
-abbrev pub is_close : ℕ → Bool
-is_close b = b == 41
+abbrev pub closes_comment : ℕ → Bool
+closes_comment b = b == 41
 
 -- of the parts of a line between its `(`, the first has no `)`, and each other has one
 abbrev pub are_commented : List (List ℕ) → Bool
 are_commented [] = true
-are_commented (part ∷ parts) = (count_by is_close part == 0) && list_all (λ p. count_by is_close p == 1) parts
+are_commented (part ∷ parts) = (count_by closes_comment part == 0) && list_all (λ p. count_by closes_comment p == 1) parts
 
 -- what these parts hold outside of comments
 abbrev pub uncommented : List (List ℕ) → List ℕ
 uncommented [] = []
-uncommented (part ∷ parts) = part ++ flat_map (after_first is_close) parts
+uncommented (part ∷ parts) = part ++ flat_map (after_first closes_comment) parts
 
 -- what is left of a line without its comments, then without blanks and tabs
 abbrev pub bare : List ℕ → List ℕ
-bare line = filter (λ b. not (is_blank b)) (uncommented (slice_split is_open line))
+bare line = filter (λ b. not (is_blank b)) (uncommented (slice_split opens_comment line))
 
 -- each letter, with what stands up to the next one
 abbrev pub words_of : List ℕ → List Word
@@ -61,7 +61,7 @@ mark_or_words (b ∷ c ∷ text) = content_in (b ∷ c ∷ text)
 
 -- what a line holds; none where it has more than 256 bytes, a comment that isn't closed, or what is neither `%` nor words
 abbrev pub content_of : List ℕ → Option Content
-content_of line = if nat_le (length line) 256 && are_commented (slice_split is_open line) then mark_or_words (bare line) else None
+content_of line = if nat_le (length line) 256 && are_commented (slice_split opens_comment line) then mark_or_words (bare line) else None
 
 -- the words of a line; `%` alone has none
 abbrev pub words_in : Content → List Word

@@ -4,9 +4,10 @@
 #![tactic(auto, unfolding(crate::specs::Meaning::moves_of, crate::specs::Meaning::code_refusal_of))]
 
 ghost use Rattle.std.specs.Prelude.{◌≡◌, [], ◌∷◌, ◌++◌, None, Some, true, false, codes, negsuc, pos, replicate};
+ghost use Rattle.code_moves.specs.BurntChains.{burnt_legs};
 ghost use Rattle.code_moves.specs.CodeText.{code_text};
 ghost use Rattle.code_moves.specs.Meaning.{code_refusal_of, moves_of};
-ghost use Rattle.code_moves.specs.Square.{place, move, south_west, square_chain, square_code, square_moves};
+ghost use Rattle.code_moves.specs.Square.{point_at, move, south_west, north_west, square_chain, square_code, square_moves, led_in_code, led_in_moves};
 ghost use Rattle.code_moves.specs.declared.faults.CodeError.TheVariants.{BadLine, UnknownWord, TooFar, NoEnd};
 
 /// The code of the square is written line by line, has no fault, and burns the four sides after one way to its first corner.
@@ -16,12 +17,23 @@ pub fn square_code()
     ensures moves { moves_of square_code ≡ square_moves }
 {}
 
+/// A lead-in that begins at the chain's first vertex has a line of its own, and no move: the first side is the fresh one. A chain
+/// whose places are all one burns the spot.
+pub fn lead_in_at_the_first_vertex()
+    ensures text { code_text ((north_west ∷ square_chain) ∷ []) ≡ led_in_code }
+    ensures accepted { code_refusal_of led_in_code ≡ None }
+    ensures moves { moves_of led_in_code ≡ led_in_moves }
+    ensures burnt { burnt_legs (north_west ∷ square_chain) ≡ burnt_legs square_chain }
+    ensures spot { moves_of (codes "G21 G90\nF1000 S1\nG0 X0.000 Y10.000\nM3\nG1 X0.000 Y10.000\nM5\nM2\n") ≡
+        move south_west north_west false false 3 ∷ move north_west north_west true true 6 ∷ [] }
+{}
+
 /// Small letters, comments, leading zeros, relative places, and `%` as the end.
 pub fn free_forms()
     ensures accepted { code_refusal_of (codes "%\nN12345 g21 (cut)\nF1000S1\ng0x4 y+12.\nM03\nG01 X0 Y10.0000\ng91\nx-.5\n%\n") ≡ None }
     ensures moves { moves_of (codes "%\nN12345 g21 (cut)\nF1000S1\ng0x4 y+12.\nM03\nG01 X0 Y10.0000\ng91\nx-.5\n%\n") ≡
-        move south_west (place 4000 12000) false false 4 ∷ move (place 4000 12000) (place 0 10000) true true 6
-        ∷ move (place 0 10000) (record { x = negsuc 499; y = pos 10000 }) true false 8 ∷ [] }
+        move south_west (point_at 4000 12000) false false 4 ∷ move (point_at 4000 12000) (point_at 0 10000) true true 6
+        ∷ move (point_at 0 10000) (record { x = negsuc 499; y = pos 10000 }) true false 8 ∷ [] }
     ensures idle { code_refusal_of (codes "G17 G17 G40 G49 G94 M02") ≡ None }
     ensures dwell { code_refusal_of (codes "G4 P5.5 M30") ≡ None }
     ensures negative_zero { code_refusal_of (codes "F-0.0 M2") ≡ None }
@@ -35,10 +47,10 @@ pub fn free_forms()
 pub fn lightings_without_a_move()
     ensures by_the_end { moves_of (codes "M3 M2") ≡ move south_west south_west true true 1 ∷ [] }
     ensures before { moves_of (codes "M3\nG0 X1 M5\nM3 G1 X0\nX0 M2") ≡
-        move south_west south_west true true 2 ∷ move south_west (place 1000 0) false false 2 ∷ move (place 1000 0) south_west true true 3 ∷ [] }
-    ensures after { moves_of (codes "G0 X1\nM3 M2") ≡ move south_west (place 1000 0) false false 1 ∷ move (place 1000 0) (place 1000 0) true true 2 ∷ [] }
+        move south_west south_west true true 2 ∷ move south_west (point_at 1000 0) false false 2 ∷ move (point_at 1000 0) south_west true true 3 ∷ [] }
+    ensures after { moves_of (codes "G0 X1\nM3 M2") ≡ move south_west (point_at 1000 0) false false 1 ∷ move (point_at 1000 0) (point_at 1000 0) true true 2 ∷ [] }
     ensures fresh_again { moves_of (codes "G0 M3 X1\nM3 X2\nM5\nM3 X3 M2") ≡
-        move south_west (place 1000 0) true true 1 ∷ move (place 1000 0) (place 2000 0) true false 2 ∷ move (place 2000 0) (place 3000 0) true true 4 ∷ [] }
+        move south_west (point_at 1000 0) true true 1 ∷ move (point_at 1000 0) (point_at 2000 0) true false 2 ∷ move (point_at 2000 0) (point_at 3000 0) true true 4 ∷ [] }
 {}
 
 /// Lines that are no lists of words, or whose words contradict one another.

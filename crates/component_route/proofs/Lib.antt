@@ -1,11 +1,12 @@
 pub mod Tops
 pub mod Burning
 pub mod Avoiding
+pub mod Seen
 pub mod WalkSteps
 pub mod MainSteps
 pub mod References
 pub mod Reburning
 pub mod Roots
 pub mod Beginnings
-pub mod LinkedParts
+pub mod ConnectedComponents
 pub mod Endings

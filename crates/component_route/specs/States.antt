@@ -1,82 +1,82 @@
 -- What stands while a component is covered. `o` is the graph as it was before, `x` the graph as it is, and r what is laid of the
 -- order. By numbers both graphs have one rotation system. The root is the vertex that `start` leaves.
-use Rattle.std.specs.Prelude.{◌≡◌, ◌≢◌, ◌⊎◌, ◌↔◌, ℕ, ◌+◌, ◌<◌, ◌≤◌, ◌%◌, List, [], ◌∷◌, ◌++◌, length, take, Option, None, IfSome}
+use Rattle.std.specs.Prelude.{◌≡◌, ◌≢◌, ◌↔◌, ℕ, ◌+◌, ◌<◌, ◌≤◌, ◌%◌, List, [], ◌∷◌, ◌++◌, length, take, Option, None, IfSome}
 use Rattle.nest_base.specs.declared.numbers.Side.{Side}
-use Rattle.half_edges.specs.Rotation.{Rotation, IsRotation, Divides, to}
-use Rattle.half_edges.specs.Graph.{Graph, rotation_of, part_of, origin_of}
+use Rattle.rotation_systems.specs.RotationSystem.{RotationSystem, IsRotationSystem, Divides, to}
+use Rattle.half_edges.specs.Graph.{Graph, rotations_of, component_of, origin_of}
 use Rattle.half_edges.specs.Burns.{IsBurnt, with_burnt}
 use Rattle.cover_walks.specs.Orders.{Has, Once}
-use Rattle.cover_walks.specs.Walks.{Walking, Exhausting, Ready, IsExhausted, IsCounted, CanFollow, Leaves, AreBelow, breaks, breaks_after, ends, is_odd, odd_count}
+use Rattle.cover_walks.specs.Walks.{Walking, Exhausting, Ready, IsExhausted, IsCounted, CanFollow, TopLeaves, breaks, breaks_after, ends, odd_count}
 use Rattle.component_route.specs.Scans.{moved_last}
 use Rattle.component_route.specs.Courses.{Course, order_of}
 
 -- the component of start
-abbrev pub component_of : Graph → ℕ → ℕ
-component_of o start = part_of o (origin_of o start)
+abbrev pub component_from : Graph → ℕ → ℕ
+component_from o start = component_of o (origin_of o start)
 
 -- no edge of the component of start is burnt
 abbrev pub IsUnburnt : Graph → ℕ → Type 0
 IsUnburnt o start =
-    (s : ℕ) → s < (rotation_of o).sides → part_of o (origin_of o s) ≡ component_of o start → IsBurnt o s → ⊥
+    (s : ℕ) → s < (rotations_of o).sides → component_of o (origin_of o s) ≡ component_from o start → IsBurnt o s → ⊥
 
 -- the component of start can be covered
 pub record IsFresh (o : Graph) (start : ℕ) : Type 0 where
-  pub rotation : IsRotation (rotation_of o)
-  pub divides : Divides (rotation_of o) (part_of o)
-  pub outer : start < (rotation_of o).sides
+  pub rotation : IsRotationSystem (rotations_of o)
+  pub divides : Divides (rotations_of o) (component_of o)
+  pub outer : start < (rotations_of o).sides
   pub unburnt : IsUnburnt o start
 
 -- the edges of the order have been burnt since, and no others
 pub record IsBurntBy (o x : Graph) (order : List ℕ) : Type 0 where
   pub laid : List ℕ
   pub graph : x ≡ with_burnt o (o.burnt ++ laid)
-  pub edges : (s : ℕ) → Has (rotation_of o) laid s ↔ Has (rotation_of o) order s
+  pub edges : (s : ℕ) → Has (rotations_of o) laid s ↔ Has (rotations_of o) order s
 
 -- a walk from the vertex v that stands at z, on the stack `base`
 pub record WalkHead (o : Graph) (start : ℕ) (avoid : Option Side) (v z : ℕ) (base : List ℕ) (x : Graph) (r : Course) : Type 0 where
   pub fresh : IsFresh o start
   pub burnt : IsBurntBy o x (order_of r)
-  pub walking : Walking (rotation_of o) (part_of o) (component_of o start) start (moved_last (rotation_of o) avoid) v z r.done base r.stack
-  pub avoided : IfSome avoid (λ a. Has (rotation_of o) (order_of r) a.0)
-  pub room : (rotation_of o).sides ≤ r.room + r.room
+  pub walking : Walking (rotations_of o) (component_of o) (component_from o start) start (moved_last (rotations_of o) avoid) v z r.done base r.stack
+  pub avoided : IfSome avoid (λ a. Has (rotations_of o) (order_of r) a.0)
+  pub room : (rotations_of o).sides ≤ r.room + r.room
 
 -- no walk is under way
 pub record MainHead (o : Graph) (start : ℕ) (x : Graph) (r : Course) : Type 0 where
   pub fresh : IsFresh o start
   pub burnt : IsBurntBy o x (order_of r)
-  pub ready : Ready (rotation_of o) (part_of o) (component_of o start) start r.done r.stack
+  pub ready : Ready (rotations_of o) (component_of o) (component_from o start) start r.done r.stack
   pub some : 0 < length (order_of r)
-  pub room : (rotation_of o).sides ≤ r.room + r.room
+  pub room : (rotations_of o).sides ≤ r.room + r.room
 
 -- the half-edge f was just moved, and walks from the vertex to which it leads may begin
 pub record JustMoved (o : Graph) (start f : ℕ) (x : Graph) (r : Course) : Type 0 where
   pub fresh : IsFresh o start
   pub burnt : IsBurntBy o x (order_of r)
-  pub exhausting : Exhausting (rotation_of o) (part_of o) (component_of o start) start f (to (rotation_of o) f) r.done r.stack
+  pub exhausting : Exhausting (rotations_of o) (component_of o) (component_from o start) start f (to (rotations_of o) f) r.done r.stack
   -- the vertex is the root, or exhausted, or the top of the stack leaves it
-  pub follow : CanFollow (rotation_of o) (order_of r) (origin_of o start) (origin_of o start) (to (rotation_of o) f) r.stack
+  pub follow : CanFollow (rotations_of o) (order_of r) (origin_of o start) (origin_of o start) (to (rotations_of o) f) r.stack
   pub before : List ℕ
   pub moved : r.done ≡ before ++ f ∷ []
-  pub room : (rotation_of o).sides ≤ r.room + r.room
+  pub room : (rotations_of o).sides ≤ r.room + r.room
 
 -- breaks and odd vertices together are at most `most`, while no walk is under way
-abbrev pub IsWithin : Graph → ℕ → ℕ → ℕ → Course → Type 0
-IsWithin o start vertices most r =
-    breaks (rotation_of o) (order_of r) + odd_count (rotation_of o) (part_of o) (component_of o start) vertices (order_of r) ≤ most
+abbrev pub CountsWithin : Graph → ℕ → ℕ → ℕ → Course → Type 0
+CountsWithin o start vertices most r =
+    breaks (rotations_of o) (order_of r) + odd_count (rotations_of o) (component_of o) (component_from o start) vertices (order_of r) ≤ most
 
 -- and while v is being exhausted, as `IsCounted` says it
-abbrev pub IsWithinAt : Graph → ℕ → ℕ → ℕ → ℕ → Course → Type 0
-IsWithinAt o start vertices most v r = IsCounted (rotation_of o) (part_of o) (component_of o start) vertices most v r.done r.stack
+abbrev pub CountsWithinAt : Graph → ℕ → ℕ → ℕ → ℕ → Course → Type 0
+CountsWithinAt o start vertices most v r = IsCounted (rotations_of o) (component_of o) (component_from o start) vertices most v r.done r.stack
 
 -- every walk so far was closed; v is being exhausted, and `moved`, which leads to v, was moved last
-pub record IsUnbrokenAt (g : Rotation) (moved v : ℕ) (r : Course) : Type 0 where
+pub record IsUnbrokenAt (g : RotationSystem) (moved v : ℕ) (r : Course) : Type 0 where
   pub ends_at : to g moved ≡ v
   pub done_breaks : breaks g r.done ≡ 0
   pub breaks : breaks_after g v r.stack ≡ 0
   pub even : (u : ℕ) → ends g (order_of r) u % 2 ≡ 0
 
 -- and while no walk is under way
-pub record IsUnbroken (g : Rotation) (r : Course) : Type 0 where
+pub record IsUnbroken (g : RotationSystem) (r : Course) : Type 0 where
   pub breaks : breaks g (order_of r) ≡ 0
   pub even : (u : ℕ) → ends g (order_of r) u % 2 ≡ 0
 
@@ -84,12 +84,12 @@ pub record IsUnbroken (g : Rotation) (r : Course) : Type 0 where
 pub record Opened (o : Graph) (start : ℕ) (avoid : Option Side) (v : ℕ) (x : Graph) (r : Course) : Type 0 where
   pub last : ℕ
   pub base : List ℕ
-  pub last_in : last < (rotation_of o).sides
-  pub before : Exhausting (rotation_of o) (part_of o) (component_of o start) start (moved_last (rotation_of o) avoid) v r.done base
+  pub last_in : last < (rotations_of o).sides
+  pub before : Exhausting (rotations_of o) (component_of o) (component_from o start) start (moved_last (rotations_of o) avoid) v r.done base
   pub walk : WalkHead o start avoid v (origin_of o last) base x r
-  pub exhausted : IsExhausted (rotation_of o) (order_of r) (origin_of o last)
-  pub unbroken : breaks_after (rotation_of o) v base ≡ 0
-  pub even : (u : ℕ) → ends (rotation_of o) (r.done ++ base) u % 2 ≡ 0
+  pub exhausted : IsExhausted (rotations_of o) (order_of r) (origin_of o last)
+  pub unbroken : breaks_after (rotations_of o) v base ≡ 0
+  pub even : (u : ℕ) → ends (rotations_of o) (r.done ++ base) u % 2 ≡ 0
   pub open_walk : v ≢ origin_of o last
 
 -- the same, from whatever vertex
@@ -105,22 +105,14 @@ pub record FromRoot (o : Graph) (start : ℕ) (x : Graph) (r : Course) : Type 0 
 
 -- a walk from the root, with nothing done, has come to an exhausted vertex
 pub record RootWalk (o : Graph) (start last : ℕ) (base stack : List ℕ) : Type 0 where
-  pub walking : Walking (rotation_of o) (part_of o) (component_of o start) start (moved_last (rotation_of o) None) (origin_of o start) (origin_of o last) [] base stack
-  pub leaves : Leaves (rotation_of o) (origin_of o last) stack
-  pub exhausted : IsExhausted (rotation_of o) stack (origin_of o last)
+  pub walking : Walking (rotations_of o) (component_of o) (component_from o start) start (moved_last (rotations_of o) None) (origin_of o start) (origin_of o last) [] base stack
+  pub leaves : TopLeaves (rotations_of o) (origin_of o last) stack
+  pub exhausted : IsExhausted (rotations_of o) stack (origin_of o last)
 
--- the edges of the stack can be burnt after the first `mark` of those that are burnt
-pub record CanReburn (x : Graph) (mark : ℕ) (stack : List ℕ) : Type 0 where
-  pub rotation : IsRotation (rotation_of x)
-  pub mark_in : mark ≤ length x.burnt
-  pub within : (s : ℕ) → Has (rotation_of x) stack s → s < (rotation_of x).sides
-  pub once : Once (rotation_of x) stack
-  pub unburnt : (s : ℕ) → Has (rotation_of x) stack s → IsBurnt (with_burnt x (take mark x.burnt)) s → ⊥
-
--- the work is done
-pub record IsCovered (o : Graph) (start : ℕ) (x : Graph) (r : Course) : Type 0 where
-  pub main : MainHead o start x r
-  pub empty : r.stack ≡ []
-  pub few : (vertices : ℕ) → AreBelow (rotation_of o) vertices →
-      (breaks (rotation_of o) (order_of r) + 1 + is_odd (rotation_of o) [] (origin_of o start) ≤ odd_count (rotation_of o) (part_of o) (component_of o start) vertices [])
-      ⊎ ((breaks (rotation_of o) (order_of r) ≡ 0) × (is_odd (rotation_of o) [] (origin_of o start) ≡ 0))
+-- the edges of the stack can be burnt after the first `checkpoint` of those that are burnt
+pub record CanReburn (x : Graph) (checkpoint : ℕ) (stack : List ℕ) : Type 0 where
+  pub rotation : IsRotationSystem (rotations_of x)
+  pub checkpoint_in : checkpoint ≤ length x.burnt
+  pub within : (s : ℕ) → Has (rotations_of x) stack s → s < (rotations_of x).sides
+  pub once : Once (rotations_of x) stack
+  pub unburnt : (s : ℕ) → Has (rotations_of x) stack s → IsBurnt (with_burnt x (take checkpoint x.burnt)) s → ⊥

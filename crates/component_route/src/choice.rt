@@ -1,11 +1,11 @@
 //! The choice of the edge by which a walk goes on.
 ghost use Rattle.std.specs.Prelude.{◌≡◌, ℕ, List};
-ghost use Rattle.half_edges.specs.Rotation.{IsRotation};
-ghost use Rattle.half_edges.specs.Graph.{rotation_of};
+ghost use Rattle.rotation_systems.specs.RotationSystem.{IsRotationSystem};
+ghost use Rattle.half_edges.specs.Graph.{rotations_of};
 ghost use Rattle.cover_walks.specs.Choices.{CanChoose, IsReference, IsChosen};
 ghost use Rattle.component_route.specs.Scans.{burnt_in, moved_last};
 
-use crate::scan::{is_avoided, scan_ccw, scan_cw};
+use crate::scan::{Turn, is_avoided, scan};
 use half_edges::PlaneGraph;
 use nest_base::Side;
 
@@ -31,18 +31,18 @@ impl Reference {
 /// An unburnt edge at the vertex of the reference that may burn before the stack and after all that is done: the first one
 /// counterclockwise after the reference, but clockwise where the avoided half-edge comes first.
 pub fn choose(graph: &PlaneGraph, reference: Reference, avoid: Option<Side>) -> Side
-    requires rotation { IsRotation (rotation_of graph.now) }
+    requires rotation { IsRotationSystem (rotations_of graph.now) }
     requires known { (start : ℕ) × (z : ℕ) × (done : List ℕ) × (stack : List ℕ)
-        × CanChoose (rotation_of graph.now) (burnt_in graph.now) (moved_last (rotation_of graph.now) avoid) z done stack
-        × IsReference (rotation_of graph.now) start stack z reference.left.0 reference.right.0 }
+        × CanChoose (rotations_of graph.now) (burnt_in graph.now) (moved_last (rotations_of graph.now) avoid) z done stack
+        × IsReference (rotations_of graph.now) start stack z reference.left.0 reference.right.0 }
     ensures { (start z : ℕ) (done stack : List ℕ) →
-        CanChoose (rotation_of graph.now) (burnt_in graph.now) (moved_last (rotation_of graph.now) avoid) z done stack →
-        IsReference (rotation_of graph.now) start stack z reference.left.0 reference.right.0 →
-        IsChosen (rotation_of graph.now) start z done stack result.0 }
+        CanChoose (rotations_of graph.now) (burnt_in graph.now) (moved_last (rotations_of graph.now) avoid) z done stack →
+        IsReference (rotations_of graph.now) start stack z reference.left.0 reference.right.0 →
+        IsChosen (rotations_of graph.now) start z done stack result.0 }
 {
-    let chosen = scan_ccw(graph, reference.left, avoid);
+    let chosen = scan(graph, Turn::Ccw, reference.left, avoid);
     if is_avoided(avoid, chosen) {
-        scan_cw(graph, reference.right, avoid)
+        scan(graph, Turn::Cw, reference.right, avoid)
     } else {
         chosen
     }

@@ -1,19 +1,18 @@
 //! One component is covered.
 ghost use Rattle.std.specs.Prelude.{◌≡◌, ◌<◌, ◌≤◌, ◌+◌, ◌%◌, ◌⊎◌, ◌↔◌, [], ℕ, List, length, IsTrue};
-ghost use Rattle.half_edges.specs.Graph.{Graph, rotation_of, origin_of, part_of};
+ghost use Rattle.half_edges.specs.Graph.{Graph, rotations_of, origin_of, component_of};
 ghost use Rattle.half_edges.specs.Burns.{IsBurnt, with_burnt};
-ghost use Rattle.cover_walks.specs.Orders.{Has};
-ghost use Rattle.cover_walks.specs.Walks.{AreBelow, breaks, is_odd};
-ghost use Rattle.cover_walks.specs.Covers.{IsCoverOrder};
+ghost use Rattle.cover_walks.specs.Orders.{Has, Encloses};
+ghost use Rattle.cover_walks.specs.Walks.{AreBelow, EndsAt, breaks, is_odd};
+ghost use Rattle.cover_walks.specs.Covers.{HasFewChains, IsEdgeOrder};
 ghost use Rattle.cover_walks.specs.Choices.{HasUnburnt};
 ghost use Rattle.component_route.specs.Courses.{order_of};
 ghost use Rattle.component_route.specs.Scans.{burnt_in};
-ghost use Rattle.component_route.specs.States.{MainHead, FromRoot, RootWalk, IsFresh, IsUnburnt, IsWithinAt, IsCovered};
+ghost use Rattle.component_route.specs.States.{MainHead, FromRoot, RootWalk, IsFresh, IsUnburnt, CountsWithinAt};
 
 use crate::choice::Reference;
-use crate::finish::finish_all;
+use crate::finish::{Until, finish};
 use crate::route::Route;
-use crate::unbroken::finish_unbroken;
 use crate::undo::give_up_done;
 use crate::walk::walk;
 use half_edges::PlaneGraph;
@@ -22,16 +21,16 @@ use nest_base::Side;
 /// A walk from the root, beside the outer corner. Answers a half-edge that leaves the vertex where it ends.
 fn walk_from_root(graph: &mut PlaneGraph, route: &mut Route, start: Side) -> Side
     requires known { (o : Graph) × FromRoot o start.0 graph.old route.old }
-    requires free { HasUnburnt (rotation_of graph.old) (burnt_in graph.old) (origin_of graph.old start.0) }
+    requires free { HasUnburnt (rotations_of graph.old) (burnt_in graph.old) (origin_of graph.old start.0) }
     ensures head { (o : Graph) → FromRoot o start.0 graph.old route.old → MainHead o start.0 graph.new route.new
         × FromRoot o start.0 graph.new route.new }
     ensures counted { (o : Graph) (vertices most : ℕ) → FromRoot o start.0 graph.old route.old →
-        AreBelow (rotation_of o) vertices →
-        IsWithinAt o start.0 vertices most (origin_of o start.0) route.old →
-        IsWithinAt o start.0 vertices most (origin_of o start.0) route.new }
+        AreBelow (rotations_of o) vertices →
+        CountsWithinAt o start.0 vertices most (origin_of o start.0) route.old →
+        CountsWithinAt o start.0 vertices most (origin_of o start.0) route.new }
     ensures walked { (o : Graph) → FromRoot o start.0 graph.old route.old →
         RootWalk o start.0 result.0 route.old.stack route.new.stack }
-    ensures within { result.0 < (rotation_of graph.new).sides }
+    ensures within { result.0 < (rotations_of graph.new).sides }
     ensures room { route.new.room ≡ route.old.room }
 {
     let reference = Reference {
@@ -44,17 +43,17 @@ fn walk_from_root(graph: &mut PlaneGraph, route: &mut Route, start: Side) -> Sid
 /// Walks from the root, at which an odd number of edges is unburnt, and finishes the stack.
 fn second_walk(graph: &mut PlaneGraph, route: &mut Route, start: Side)
     requires known { (o : Graph) × FromRoot o start.0 graph.old route.old }
-    requires free { HasUnburnt (rotation_of graph.old) (burnt_in graph.old) (origin_of graph.old start.0) }
+    requires free { HasUnburnt (rotations_of graph.old) (burnt_in graph.old) (origin_of graph.old start.0) }
     ensures head { (o : Graph) → FromRoot o start.0 graph.old route.old → MainHead o start.0 graph.new route.new }
     ensures empty { route.new.stack ≡ [] }
-    ensures few { (o : Graph) (vertices most : ℕ) → FromRoot o start.0 graph.old route.old → AreBelow (rotation_of o) vertices →
-        is_odd (rotation_of o) (order_of route.old) (origin_of o start.0) ≡ 1 →
-        IsWithinAt o start.0 vertices most (origin_of o start.0) route.old →
-        breaks (rotation_of o) (order_of route.new) + 1 ≤ most }
+    ensures few { (o : Graph) (vertices most : ℕ) → FromRoot o start.0 graph.old route.old → AreBelow (rotations_of o) vertices →
+        is_odd (rotations_of o) (order_of route.old) (origin_of o start.0) ≡ 1 →
+        CountsWithinAt o start.0 vertices most (origin_of o start.0) route.old →
+        breaks (rotations_of o) (order_of route.new) + 1 ≤ most }
     ensures room { route.new.room ≡ route.old.room }
 {
     walk_from_root(graph, route, start);
-    finish_all(graph, route, start);
+    finish(graph, route, start, Until::Done);
 }
 
 /// The work of `cover`. Where the first walk is open and the root had an even number of edges, a second walk makes it even again; where
@@ -63,11 +62,13 @@ fn cover_component(graph: &mut PlaneGraph, route: &mut Route, start: Side)
     requires fresh { IsFresh graph.old start.0 }
     requires done { route.old.done ≡ [] }
     requires stack { route.old.stack ≡ [] }
-    requires room { (rotation_of graph.old).sides ≤ route.old.room + route.old.room }
-    ensures covered { IsCovered graph.old start.0 graph.new route.new }
+    requires room { (rotations_of graph.old).sides ≤ route.old.room + route.old.room }
+    ensures main { MainHead graph.old start.0 graph.new route.new }
+    ensures empty { route.new.stack ≡ [] }
+    ensures few { HasFewChains (rotations_of graph.old) (component_of graph.old) start.0 (order_of route.new) }
     ensures room { route.new.room ≡ route.old.room }
 {
-    let mark = graph.mark();
+    let checkpoint = graph.mark();
     let root = graph.from(start);
     let even = graph.degree(root) % 2 == 0;
     let last = walk_from_root(graph, route, start);
@@ -75,10 +76,10 @@ fn cover_component(graph: &mut PlaneGraph, route: &mut Route, start: Side)
         if even {
             second_walk(graph, route, start);
         } else {
-            finish_all(graph, route, start);
+            finish(graph, route, start, Until::Done);
         }
-    } else if finish_unbroken(graph, route, start) {
-        give_up_done(graph, route, mark);
+    } else if finish(graph, route, start, Until::Open) {
+        give_up_done(graph, route, checkpoint);
         second_walk(graph, route, start);
     }
 }
@@ -89,14 +90,17 @@ fn cover_component(graph: &mut PlaneGraph, route: &mut Route, start: Side)
 ///
 /// Takes **O(nd)** for n edges of the component, where no vertex has more than d, and no memory.
 pub fn cover(graph: &mut PlaneGraph, route: &mut Route, start: Side)
-    requires start { start.0 < (rotation_of graph.old).sides }
+    requires start { start.0 < (rotations_of graph.old).sides }
     requires unburnt { IsUnburnt graph.old start.0 }
     requires done { route.old.done ≡ [] }
     requires stack { route.old.stack ≡ [] }
     requires room { length graph.old.edges ≤ route.old.room }
-    ensures order { IsCoverOrder (rotation_of graph.old) (part_of graph.old) start.0 route.new.done }
+    ensures edges { IsEdgeOrder (rotations_of graph.old) (component_of graph.old) start.0 route.new.done }
+    ensures encloses { Encloses (rotations_of graph.old) (λ s. s ≡ start.0) route.new.done }
+    ensures last { EndsAt (rotations_of graph.old) (origin_of graph.old start.0) route.new.done }
+    ensures few { HasFewChains (rotations_of graph.old) (component_of graph.old) start.0 route.new.done }
     ensures empty { route.new.stack ≡ [] }
-    ensures burnt { (s : ℕ) → IsBurnt graph.new s ↔ IsBurnt graph.old s ⊎ Has (rotation_of graph.old) route.new.done s }
+    ensures burnt { (s : ℕ) → IsBurnt graph.new s ↔ IsBurnt graph.old s ⊎ Has (rotations_of graph.old) route.new.done s }
     ensures same { graph.new ≡ with_burnt graph.old graph.new.burnt }
     ensures room { route.new.room ≡ route.old.room }
 {

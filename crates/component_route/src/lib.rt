@@ -17,9 +17,6 @@ pub mod covering;
 mod finish;
 pub mod route;
 mod scan;
-#[cfg(test)]
-mod tests;
-mod unbroken;
 mod undo;
 mod walk;
 

@@ -1,6 +1,6 @@
 //! What is laid of a burning order.
 ghost use Rattle.std.specs.Prelude.{◌≡◌, ◌+◌, ◌<◌, ◌≤◌, [], ◌∷◌, ◌++◌, List, ℕ, length, reverse, IfOk, IfSome, IfNone};
-ghost use Rattle.half_edges.specs.Floods.{sides_in};
+ghost use Rattle.nest_base.specs.NumberLists.{side_numbers};
 
 use nest_base::{OutOfMemory, Side};
 use std::alloc::Global;
@@ -44,7 +44,7 @@ impl Route {
 
     /// The edges that are done, in burning order.
     pub fn order(&self) -> &[Side]
-        ensures { sides_in result.now ≡ self.now.done }
+        ensures { side_numbers result.now ≡ self.now.done }
     {
         self.done.as_slice()
     }
@@ -59,7 +59,7 @@ impl Route {
 
     /// The stack, from its bottom.
     pub(crate) fn stack(&self) -> &[Side]
-        ensures { reverse (sides_in result.now) ≡ self.now.stack }
+        ensures { reverse (side_numbers result.now) ≡ self.now.stack }
     {
         self.stack.as_slice()
     }

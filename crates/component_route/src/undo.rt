@@ -6,13 +6,13 @@ ghost use Rattle.component_route.specs.States.{CanReburn};
 use crate::route::Route;
 use half_edges::PlaneGraph;
 
-/// Unburns all edges but the first `mark`, and burns those of the stack again, from its bottom. Nothing is done then.
-pub fn give_up_done(graph: &mut PlaneGraph, route: &mut Route, mark: u32)
-    requires { CanReburn graph.old mark route.old.stack }
-    ensures graph { graph.new ≡ with_burnt graph.old (take mark graph.old.burnt ++ reverse route.old.stack) }
+/// Unburns all edges but the first `checkpoint`, and burns those of the stack again, from its bottom. Nothing is done then.
+pub fn give_up_done(graph: &mut PlaneGraph, route: &mut Route, checkpoint: u32)
+    requires { CanReburn graph.old checkpoint route.old.stack }
+    ensures graph { graph.new ≡ with_burnt graph.old (take checkpoint graph.old.burnt ++ reverse route.old.stack) }
     ensures route { route.new ≡ record route.old { done = [] } }
 {
-    graph.unburn_to(mark);
+    graph.unburn_to(checkpoint);
     for side in route.stack() {
         graph.burn(*side);
     }

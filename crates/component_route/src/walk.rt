@@ -1,11 +1,11 @@
 //! Walks: from a vertex on by unburnt edges, until one is exhausted.
 ghost use Rattle.std.specs.Prelude.{◌≡◌, ◌<◌, ◌∷◌, ℕ, List, length};
-ghost use Rattle.half_edges.specs.Graph.{Graph, rotation_of, origin_of};
-ghost use Rattle.cover_walks.specs.Walks.{AreBelow, IsExhausted};
+ghost use Rattle.half_edges.specs.Graph.{Graph, rotations_of, origin_of};
+ghost use Rattle.cover_walks.specs.Walks.{IsExhausted};
 ghost use Rattle.cover_walks.specs.Choices.{HasUnburnt, IsReference};
 ghost use Rattle.component_route.specs.Courses.{StackGrows, order_of};
 ghost use Rattle.component_route.specs.Scans.{burnt_in};
-ghost use Rattle.component_route.specs.States.{WalkHead, IsWithinAt};
+ghost use Rattle.component_route.specs.States.{WalkHead};
 
 use crate::choice::{Reference, choose};
 use crate::route::Route;
@@ -23,14 +23,14 @@ fn advance(
 ) -> Side
     requires known { (o : Graph) × (start v : ℕ) × (base : List ℕ)
         × WalkHead o start avoid v (origin_of o reference.left.0) base graph.old route.old
-        × IsReference (rotation_of o) start route.old.stack (origin_of o reference.left.0) reference.left.0 reference.right.0 }
-    requires free { HasUnburnt (rotation_of graph.old) (burnt_in graph.old) (origin_of graph.old reference.left.0) }
+        × IsReference (rotations_of o) start route.old.stack (origin_of o reference.left.0) reference.left.0 reference.right.0 }
+    requires free { HasUnburnt (rotations_of graph.old) (burnt_in graph.old) (origin_of graph.old reference.left.0) }
     ensures head { (o : Graph) (start v : ℕ) (base : List ℕ) →
         WalkHead o start avoid v (origin_of o reference.left.0) base graph.old route.old →
-        IsReference (rotation_of o) start route.old.stack (origin_of o reference.left.0) reference.left.0 reference.right.0 →
+        IsReference (rotations_of o) start route.old.stack (origin_of o reference.left.0) reference.left.0 reference.right.0 →
         WalkHead o start avoid v (origin_of o result.0) base graph.new route.new }
     ensures pushed { route.new ≡ record route.old { stack = result.0 ∷ route.old.stack } }
-    ensures within { result.0 < (rotation_of graph.new).sides }
+    ensures within { result.0 < (rotations_of graph.new).sides }
 {
     let chosen = choose(graph, reference, avoid);
     let side = graph.twin(chosen);
@@ -48,41 +48,20 @@ pub fn walk(
 ) -> Side
     requires known { (o : Graph) × (start v : ℕ) × (base : List ℕ)
         × WalkHead o start avoid v (origin_of o reference.left.0) base graph.old route.old
-        × IsReference (rotation_of o) start route.old.stack (origin_of o reference.left.0) reference.left.0 reference.right.0 }
-    requires free { HasUnburnt (rotation_of graph.old) (burnt_in graph.old) (origin_of graph.old reference.left.0) }
+        × IsReference (rotations_of o) start route.old.stack (origin_of o reference.left.0) reference.left.0 reference.right.0 }
+    requires free { HasUnburnt (rotations_of graph.old) (burnt_in graph.old) (origin_of graph.old reference.left.0) }
     ensures head { (o : Graph) (start v : ℕ) (base : List ℕ) →
         WalkHead o start avoid v (origin_of o reference.left.0) base graph.old route.old →
-        IsReference (rotation_of o) start route.old.stack (origin_of o reference.left.0) reference.left.0 reference.right.0 →
+        IsReference (rotations_of o) start route.old.stack (origin_of o reference.left.0) reference.left.0 reference.right.0 →
         WalkHead o start avoid v (origin_of o result.0) base graph.new route.new
-        × IsExhausted (rotation_of o) (order_of route.new) (origin_of o result.0) }
+        × IsExhausted (rotations_of o) (order_of route.new) (origin_of o result.0) }
     ensures grows { StackGrows route.old route.new }
     ensures longer { length route.old.stack < length route.new.stack }
-    ensures within { result.0 < (rotation_of graph.new).sides }
+    ensures within { result.0 < (rotations_of graph.new).sides }
 {
     let mut side = advance(graph, route, reference, avoid);
     'steps: while !is_exhausted(graph, side) {
         side = advance(graph, route, Reference::at(side), avoid);
     }
     side
-}
-
-/// Walks from the vertex of the reference until it is exhausted.
-pub fn exhaust(graph: &mut PlaneGraph, route: &mut Route, reference: Reference, avoid: Option<Side>)
-    requires known { (o : Graph) × (start : ℕ)
-        × WalkHead o start avoid (origin_of o reference.left.0) (origin_of o reference.left.0) route.old.stack graph.old route.old
-        × IsReference (rotation_of o) start route.old.stack (origin_of o reference.left.0) reference.left.0 reference.right.0 }
-    ensures head { (o : Graph) (start : ℕ) →
-        let v = origin_of o reference.left.0 in WalkHead o start avoid v v route.old.stack graph.old route.old →
-        IsReference (rotation_of o) start route.old.stack v reference.left.0 reference.right.0 →
-        WalkHead o start avoid v v route.new.stack graph.new route.new × IsExhausted (rotation_of o) (order_of route.new) v }
-    ensures counted { (o : Graph) (start vertices most : ℕ) →
-        let v = origin_of o reference.left.0 in WalkHead o start avoid v v route.old.stack graph.old route.old →
-        IsReference (rotation_of o) start route.old.stack v reference.left.0 reference.right.0 →
-        AreBelow (rotation_of o) vertices → IsWithinAt o start vertices most v route.old →
-        IsWithinAt o start vertices most v route.new }
-    ensures grows { StackGrows route.old route.new }
-{
-    'walks: while !is_exhausted(graph, reference.left) {
-        walk(graph, route, reference, avoid);
-    }
 }

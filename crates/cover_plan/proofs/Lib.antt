@@ -9,6 +9,6 @@ mod OrdersByCuts
 mod TrailsOnPlate
 mod Limits
 pub mod LastEnds
-pub mod Shares
+pub mod CoverNumbers
 pub mod OuterNumbers
 pub mod StartNumbers

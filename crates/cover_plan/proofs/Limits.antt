@@ -2,8 +2,8 @@
 use Rattle.std.proofs.Common.{arith, ◌≡◌, ◌⊎◌, inl, inr, ℕ, ◌+◌, ◌-◌, ◌<◌, ◌≤◌, List, [], ◌∷◌, length, refl}
 use Rattle.nest_base.specs.declared.places.Point.{Point}
 use Rattle.nest_base.specs.declared.places.Edge.{Edge}
-use Rattle.plate_covers.specs.Odd.{AreOddVertices}
-use Rattle.plate_covers.specs.Limit.{IsLimit, HasOuter, no_odd, outer_odd, inner_odd}
+use Rattle.plate_sides.specs.Odd.{AreOddVertices}
+use Rattle.plate_sides.specs.Limit.{IsLimit, HasOuter, no_odd, outer_odd, inner_odd}
 
 -- root is 1 where the first vertex is odd, as it is exactly where some odd vertex is an outer one, and else 0
 pub within_limit : (edges : List Edge) (mark : Point) (odd : List Point) → AreOddVertices edges mark odd →

@@ -4,7 +4,7 @@ use Rattle.std.specs.Prelude.{Contains, AllPairs}
 use Rattle.std.proofs.lemmas.Bool.{cases_eq}
 use Rattle.std.proofs.lemmas.List.Kept.{AllPairs-cons}
 use Rattle.nest_base.proofs.Lists.{Contains-head, Contains-later, Contains-cases, Contains-none, All-from_contains, AllPairs-none}
-use Rattle.half_edges.specs.Rotation.{total}
+use Rattle.rotation_systems.specs.RotationSystem.{total}
 
 -- the things that stand for the numbers below k with a property, each once, as many as a sum says
 pub record Listed (X : Type 0) (image : ℕ → X) (Q : ℕ → Type 0) (f : ℕ → ℕ) (k : ℕ) : Type 0 where

@@ -6,14 +6,14 @@ use Rattle.std.proofs.lemmas.Option.{slice_get_within}
 use Rattle.nest_base.specs.declared.places.Point.{Point}
 use Rattle.plate_sides.specs.Components.{SameComponent, IsIn}
 use Rattle.plate_sides.proofs.Vertices.{joined_is_vertex}
-use Rattle.plate_covers.specs.Odd.{IsOdd, AreOddVertices}
-use Rattle.half_edges.specs.Rotation.{degree}
-use Rattle.half_edges.specs.Graph.{Graph, rotation_of, part_of, vertex_at}
-use Rattle.half_edges.proofs.Items.{read_below, read_from_Contains}
-use Rattle.face_nesting.proofs.KnownGraph.{part_is, lies_in, is_mark_at}
+use Rattle.plate_sides.specs.Odd.{IsOdd, AreOddVertices}
+use Rattle.rotation_systems.specs.RotationSystem.{degree}
+use Rattle.half_edges.specs.Graph.{Graph, rotations_of, component_of, vertex_at}
+use Rattle.nest_base.proofs.ListReads.{read_below, read_from_Contains}
+use Rattle.face_nesting.proofs.KnownGraph.{component_is, lies_in, is_mark_at}
 use Rattle.cover_walks.specs.Walks.{is_odd, odd_within, odd_count}
 use Rattle.half_edges.specs.PlaneGraphs.{IsPlaneGraph}
-use Rattle.cover_plan.specs.Trails.{half_of}
+use Rattle.cover_plan.specs.Trails.{half_edge_of}
 use Rattle.cover_plan.specs.Laws.{OddVerticesAreCounted}
 use Rattle.cover_plan.proofs.Degrees.{odd_is_told}
 use Rattle.cover_plan.proofs.GraphHalves.{has_number, is_half_edge, vertex_is, one_vertex, leaving}
@@ -24,9 +24,9 @@ one_or_zero n = grind arith
 
 module _ {graph : Graph} (is : IsPlaneGraph graph) where
   -- before any edge is burnt
-  pub odd_at_first : (v : ℕ) (p : Point) → slice_get graph.vertices v ≡ Some p → IsOdd graph.edges p ↔ (is_odd (rotation_of graph) [] v ≡ 1)
+  pub odd_at_first : (v : ℕ) (p : Point) → slice_get graph.vertices v ≡ Some p → IsOdd graph.edges p ↔ (is_odd (rotations_of graph) [] v ≡ 1)
   odd_at_first v p at =
-      let none : degree (rotation_of graph) v + 0 ≡ degree (rotation_of graph) v = omega arith in
+      let none : degree (rotations_of graph) v + 0 ≡ degree (rotations_of graph) v = omega arith in
       subst (λ n. IsOdd graph.edges p ↔ (n % 2 ≡ 1)) (sym none) (odd_is_told graph is v p at)
 
   vertex_below : (v : ℕ) → v < length graph.vertices → slice_get graph.vertices v ≡ Some (vertex_at graph.vertices v)
@@ -40,28 +40,28 @@ module _ {graph : Graph} (is : IsPlaneGraph graph) where
 
   module _ (c : ℕ) (mark : Point) (at_c : slice_get graph.marks c ≡ Some mark) where
     -- the vertices of a component have its number
-    pub in_part : (v : ℕ) (p : Point) → slice_get graph.vertices v ≡ Some p → (part_of graph v ≡ c) ↔ SameComponent graph.edges p mark
-    in_part v p at =
+    pub in_component : (v : ℕ) (p : Point) → slice_get graph.vertices v ≡ Some p → (component_of graph v ≡ c) ↔ SameComponent graph.edges p mark
+    in_component v p at =
         let s = leaving is v p at in
         let side = has_number graph s.0 s.1 in (
           λ number.
-              let inside = lies_in is s.0 c (half_of graph s.0) mark side at_c (ap (part_of graph) s.2 ∙ number) in
+              let inside = lies_in is s.0 c (half_edge_of graph s.0) mark side at_c (ap (component_of graph) s.2 ∙ number) in
               subst (λ q. SameComponent graph.edges q mark) s.3 inside.1,
           λ joined.
-              let inside : IsIn graph.edges mark (half_of graph s.0) = (is_half_edge is s.0 s.1, subst (λ q. SameComponent graph.edges q mark) (sym s.3) joined) in
-              ap (part_of graph) (sym s.2) ∙ part_is is s.0 c (half_of graph s.0) mark side at_c inside,
+              let inside : IsIn graph.edges mark (half_edge_of graph s.0) = (is_half_edge is s.0 s.1, subst (λ q. SameComponent graph.edges q mark) (sym s.3) joined) in
+              ap (component_of graph) (sym s.2) ∙ component_is is s.0 c (half_edge_of graph s.0) mark side at_c inside,
         )
 
     -- a vertex of the component with an odd number of half-edges
     IsOddIn : ℕ → Type 0
-    IsOddIn v = (part_of graph v ≡ c) × (is_odd (rotation_of graph) [] v ≡ 1)
+    IsOddIn v = (component_of graph v ≡ c) × (is_odd (rotations_of graph) [] v ≡ 1)
 
-    odd_tells : (v : ℕ) → Tells IsOddIn (odd_within (rotation_of graph) (part_of graph) c []) v
+    odd_tells : (v : ℕ) → Tells IsOddIn (odd_within (rotations_of graph) (component_of graph) c []) v
     unfolding IsOddIn
     odd_tells v =
-        let odd = is_odd (rotation_of graph) [] v in
-        elim (eqb_tells (part_of graph v) c) [
-          | inl there ↦ elim (one_or_zero (degree (rotation_of graph) v + 0)) [
+        let odd = is_odd (rotations_of graph) [] v in
+        elim (eqb_tells (component_of graph v) c) [
+          | inl there ↦ elim (one_or_zero (degree (rotations_of graph) v + 0)) [
             | inl one ↦ inl ((there.1, one), ap (λ b. cond b odd 0) there.0 ∙ one)
             | inr none ↦ inr ((λ has. none.0 has.1), ap (λ b. cond b odd 0) there.0 ∙ none.1)
           ]
@@ -73,19 +73,19 @@ module _ {graph : Graph} (is : IsPlaneGraph graph) where
         let vertex = joined_is_vertex graph.edges (is_mark_at is c mark at_c).vertex joined in
         read_from_Contains graph.vertices p ((is.are_vertices.are_all p).1 vertex)
 
-    pub odd_vertices : (odd : List Point) × AreOddVertices graph.edges mark odd × (length odd ≡ odd_count (rotation_of graph) (part_of graph) c (length graph.vertices) [])
+    pub odd_vertices : (odd : List Point) × AreOddVertices graph.edges mark odd × (length odd ≡ odd_count (rotations_of graph) (component_of graph) c (length graph.vertices) [])
     unfolding IsOddIn
     odd_vertices =
-        let all = listed Point (vertex_at graph.vertices) IsOddIn (odd_within (rotation_of graph) (part_of graph) c []) (length graph.vertices) (λ v below. odd_tells v) one_number_each in (
+        let all = listed Point (vertex_at graph.vertices) IsOddIn (odd_within (rotations_of graph) (component_of graph) c []) (length graph.vertices) (λ v below. odd_tells v) one_number_each in (
           all.list,
           record {
             each_once = all.each_once;
             are_all = λ p. (
               λ stands. let v = all.stand p stands in
                   let at : slice_get graph.vertices v.0 ≡ Some p = vertex_below v.0 v.1 ∙ ap Some v.2 in
-                  ((in_part v.0 p at).0 v.3.0, (odd_at_first v.0 p at).1 v.3.1),
+                  ((in_component v.0 p at).0 v.3.0, (odd_at_first v.0 p at).1 v.3.1),
               λ facts. let v = vertex_number p facts.0 in
-                  let stands = all.every v.0 (slice_get_within graph.vertices v.0 p v.1) ((in_part v.0 p v.1).1 facts.0, (odd_at_first v.0 p v.1).0 facts.1) in
+                  let stands = all.every v.0 (slice_get_within graph.vertices v.0 p v.1) ((in_component v.0 p v.1).1 facts.0, (odd_at_first v.0 p v.1).0 facts.1) in
                   subst (Contains all.list) (vertex_is graph.vertices v.0 p v.1) stands,
             );
           },

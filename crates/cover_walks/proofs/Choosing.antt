@@ -1,15 +1,15 @@
 -- The half-edge at which one stops is unused and touches the stack: counterclockwise, unless one stops at the one to avoid; else
 -- clockwise.
 use Rattle.std.proofs.Common.{◌≡◌, ℕ, ◌<◌, ◌≢◌, List, ◌++◌, ◌⊎◌, inl, inr, sym, ap, subst, ◌∙◌, suc, Bool, IsTrue}
-use Rattle.half_edges.specs.Rotation.{Rotation, IsRotation, turn, back}
+use Rattle.rotation_systems.specs.RotationSystem.{RotationSystem, IsRotationSystem, turn, mirrored}
 use Rattle.cover_walks.specs.Orders.{Has}
 use Rattle.cover_walks.specs.Walks.{Touches, IsExhausted}
-use Rattle.cover_walks.specs.Choices.{StopsCcw, StopsCw, IsReference, CanChoose, IsChosen}
+use Rattle.cover_walks.specs.Choices.{Stops, IsReference, CanChoose, IsChosen}
 use Rattle.cover_walks.proofs.Holdings.{Has-after}
 use Rattle.cover_walks.proofs.Turns.{turn_in, back_in, turn_from, back_from}
 use Rattle.cover_walks.proofs.Choice.{used_in_stack, touches_ccw, touches_cw, both_ways}
 
-module _ (g : Rotation) (r : IsRotation g) (burnt : ℕ → Bool) (start avoid z : ℕ) (done stack : List ℕ) (k : CanChoose g burnt avoid z done stack) where
+module _ (g : RotationSystem) (r : IsRotationSystem g) (burnt : ℕ → Bool) (start avoid z : ℕ) (done stack : List ℕ) (k : CanChoose g burnt avoid z done stack) where
   not_exhausted : IsExhausted g (done ++ stack) z → ⊥
   not_exhausted e = let (s, b, at, n) = k.free in n ((k.marks s b at).1 (e s b at))
 
@@ -20,16 +20,16 @@ module _ (g : Rotation) (r : IsRotation g) (burnt : ℕ → Bool) (start avoid z
     at_turn : (j : ℕ) → g.from (turn g j left) ≡ z
     at_turn j = turn_from g r j left f.left_in ∙ f.left_at
 
-    at_back : (j : ℕ) → g.from (back g j right) ≡ z
+    at_back : (j : ℕ) → g.from (turn (mirrored g) j right) ≡ z
     at_back j = back_from g r j right f.right_in ∙ f.right_at
 
-    ccw_passed : {t : ℕ} → (p : StopsCcw g burnt left (g.twin avoid) t) → (j : ℕ) → j < p.steps → Has g stack (turn g (suc j) left)
+    ccw_passed : {t : ℕ} → (p : Stops g burnt left (g.twin avoid) t) → (j : ℕ) → j < p.steps → Has g stack (turn g (suc j) left)
     ccw_passed p j b = in_stack (turn g (suc j) left) (turn_in g r (suc j) left f.left_in) (at_turn (suc j)) (p.passes.passed j b).0 (p.passes.passed j b).1
 
-    cw_passed : {t : ℕ} → (p : StopsCw g burnt right (g.twin avoid) t) → (j : ℕ) → j < p.steps → Has g stack (back g (suc j) right)
-    cw_passed p j b = in_stack (back g (suc j) right) (back_in g r (suc j) right f.right_in) (at_back (suc j)) (p.passes.passed j b).0 (p.passes.passed j b).1
+    cw_passed : {t : ℕ} → (p : Stops (mirrored g) burnt right (g.twin avoid) t) → (j : ℕ) → j < p.steps → Has g stack (turn (mirrored g) (suc j) right)
+    cw_passed p j b = in_stack (turn (mirrored g) (suc j) right) (back_in g r (suc j) right f.right_in) (at_back (suc j)) (p.passes.passed j b).0 (p.passes.passed j b).1
 
-    pub chosen_ccw : {t : ℕ} → StopsCcw g burnt left (g.twin avoid) t → t ≢ g.twin avoid → IsChosen g start z done stack t
+    pub chosen_ccw : {t : ℕ} → Stops g burnt left (g.twin avoid) t → t ≢ g.twin avoid → IsChosen g start z done stack t
     chosen_ccw {t} p n =
         let in_t : t < g.sides = subst (λ s. s < g.sides) (sym p.passes.at) (turn_in g r (suc p.steps) left f.left_in) in
         let at_t : g.from t ≡ z = ap g.from p.passes.at ∙ at_turn (suc p.steps) in
@@ -41,7 +41,7 @@ module _ (g : Rotation) (r : IsRotation g) (burnt : ℕ → Bool) (start avoid z
               (touches_ccw g r start stack left p.steps f.left_in (elim f.between [ inl q ↦ inl q.1 | inr q ↦ inr q.0 ]) (ccw_passed p));
         }
 
-    pub chosen_cw : {t u : ℕ} → StopsCcw g burnt left (g.twin avoid) t → t ≡ g.twin avoid → StopsCw g burnt right (g.twin avoid) u → IsChosen g start z done stack u
+    pub chosen_cw : {t u : ℕ} → Stops g burnt left (g.twin avoid) t → t ≡ g.twin avoid → Stops (mirrored g) burnt right (g.twin avoid) u → IsChosen g start z done stack u
     chosen_cw {t} {u} p e q =
         let in_u : u < g.sides = subst (λ s. s < g.sides) (sym q.passes.at) (back_in g r (suc q.steps) right f.right_in) in
         let at_u : g.from u ≡ z = ap g.from q.passes.at ∙ at_back (suc q.steps) in

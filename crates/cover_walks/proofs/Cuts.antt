@@ -2,11 +2,11 @@
 use Rattle.std.proofs.Common.{◌≡◌, ℕ, ◌+◌, ◌<◌, List, [], ◌∷◌, inl, inr, refl, ap, arith, ◌∙◌, length}
 use Rattle.std.specs.List.{concat, AllByRecursion}
 use Rattle.std.proofs.lemmas.Bool.Decides.{eqb_tells}
-use Rattle.half_edges.specs.Rotation.{Rotation, to}
-use Rattle.cover_walks.specs.Chains.{IsChain, before_chains, chains_of}
+use Rattle.rotation_systems.specs.RotationSystem.{RotationSystem, to}
+use Rattle.cover_walks.specs.Chains.{IsSideChain, before_chains, chains_of}
 use Rattle.cover_walks.specs.Walks.{breaks, differ}
 
-module _ (g : Rotation) where
+module _ (g : RotationSystem) where
   concat_before : (a : ℕ) (chains : List (List ℕ)) → concat (before_chains g a chains) ≡ a ∷ concat chains
   concat_before a [] = refl
   concat_before a ([] ∷ rest) = refl
@@ -16,13 +16,13 @@ module _ (g : Rotation) where
   chains_concat [] = refl
   chains_concat (a ∷ l) = concat_before a (chains_of g l) ∙ ap (λ k. a ∷ k) (chains_concat l)
 
-  are_before : (a : ℕ) (chains : List (List ℕ)) → AllByRecursion (IsChain g) chains → AllByRecursion (IsChain g) (before_chains g a chains)
+  are_before : (a : ℕ) (chains : List (List ℕ)) → AllByRecursion (IsSideChain g) chains → AllByRecursion (IsSideChain g) (before_chains g a chains)
   are_before a [] h = (tt, tt)
   are_before a ([] ∷ rest) h = absurd h.0
   are_before a ((b ∷ chain) ∷ rest) h =
       elim (eqb_tells (to g a) (g.from b)) [ inl e ↦ rw e.0 (((e.1, h.0), h.1)) | inr e ↦ rw e.0 ((tt, h)) ]
 
-  pub chains_are : (l : List ℕ) → AllByRecursion (IsChain g) (chains_of g l)
+  pub chains_are : (l : List ℕ) → AllByRecursion (IsSideChain g) (chains_of g l)
   chains_are [] = tt
   chains_are (a ∷ l) = are_before a (chains_of g l) (chains_are l)
 

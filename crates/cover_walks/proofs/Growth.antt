@@ -1,15 +1,15 @@
 -- An order encloses exactly where it grows, and it still grows after an edge that touches the stack was put on the stack.
 use Rattle.std.proofs.Common.{ℕ, ◌<◌, List, [], ◌∷◌, ◌++◌, ◌⊎◌, inl, inr, refl, sym, ap, subst, ◌∙◌}
-use Rattle.half_edges.specs.Rotation.{Rotation, IsRotation}
+use Rattle.rotation_systems.specs.RotationSystem.{RotationSystem, IsRotationSystem}
 use Rattle.cover_walks.specs.Orders.{Has, Joined, at_outer, by_along, by_back, by_across, Encloses, Reached, outer, here, ahead, behind, Grows}
 use Rattle.cover_walks.specs.Walks.{Touches}
 use Rattle.cover_walks.proofs.Holdings.{Has-twin, Has-insert}
 
 -- one of the two half-edges of an edge is reached
-abbrev pub ReachedSide : Rotation → (ℕ → Type 0) → List ℕ → ℕ → Type 0
+abbrev pub ReachedSide : RotationSystem → (ℕ → Type 0) → List ℕ → ℕ → Type 0
 ReachedSide g Outer l a = Reached g Outer l a ⊎ Reached g Outer l (g.twin a)
 
-module _ (g : Rotation) (Outer : ℕ → Type 0) where
+module _ (g : RotationSystem) (Outer : ℕ → Type 0) where
   -- over more edges more is joined and reached
   pub Joined-more : (a : ℕ) (l : List ℕ) {s : ℕ} → Joined g Outer l s → Joined g Outer (a ∷ l) s
   Joined-more a l (at_outer o) = at_outer o
@@ -23,7 +23,7 @@ module _ (g : Rotation) (Outer : ℕ → Type 0) where
   Reached-more l m f (ahead j) = ahead (Reached-more l m f j)
   Reached-more l m f (behind j) = behind (Reached-more l m f j)
 
-module _ (g : Rotation) (Outer : ℕ → Type 0) (r : IsRotation g) where
+module _ (g : RotationSystem) (Outer : ℕ → Type 0) (r : IsRotationSystem g) where
   -- links to an outer half-edge stay among the later edges, or show a half-edge of the first edge that those reach
   exits : (a : ℕ) (l : List ℕ) {s : ℕ} → Joined g Outer (a ∷ l) s → Reached g Outer l s ⊎ ReachedSide g Outer l a
   exits a l (at_outer o) = inl (outer o)

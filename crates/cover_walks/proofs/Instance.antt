@@ -1,15 +1,15 @@
 -- One edge from vertex 0 to vertex 1.
 use Rattle.std.proofs.Common.{◌≡◌, ◌≢◌, ℕ, ◌<◌, ◌≤◌, [], ◌∷◌, ◌⊎◌, inl, inr, refl, sym, arith, suc, zero}
-use Rattle.half_edges.specs.Numbers.{twin_number}
-use Rattle.half_edges.specs.Rotation.{Rotation, IsRotation, degree}
-use Rattle.half_edges.proofs.Twins.{twin_twice}
+use Rattle.rotation_systems.specs.Twins.{twin_number}
+use Rattle.rotation_systems.specs.RotationSystem.{RotationSystem, IsRotationSystem, degree}
+use Rattle.rotation_systems.proofs.Twins.{twin_twice}
 use Rattle.cover_walks.specs.Orders.{at_outer, by_across}
 use Rattle.cover_walks.specs.Walks.{odd_within, odd_count}
 use Rattle.cover_walks.specs.Covers.{IsCoverOrder}
 use Rattle.cover_walks.proofs.Numbers.{without, without_other, total_without}
 
 -- round each end there is one half-edge
-abbrev pub edge : Rotation
+abbrev pub edge : RotationSystem
 edge = record { sides = 2; twin = twin_number; ccw = λ s. s; cw = λ s. s; from = λ s. s }
 
 two : (P : ℕ → Type 0) → P 0 → P 1 → (s : ℕ) → s < 2 → P s
@@ -20,8 +20,8 @@ two P a b (suc (suc n)) h = absurd (omega arith)
 leaves_each : (v : ℕ) → v < 2 → 0 < degree edge v
 leaves_each = two (λ v. 0 < degree edge v) (omega arith) (omega arith)
 
-pub edge_is_rotation : IsRotation edge
-edge_is_rotation = record {
+pub edge_is_rotation_system : IsRotationSystem edge
+edge_is_rotation_system = record {
   twin_in = two (λ s. twin_number s < 2) (omega arith) (omega arith);
   ccw_in = λ s b. b;
   cw_in = λ s b. b;

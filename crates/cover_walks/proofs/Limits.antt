@@ -1,6 +1,6 @@
 -- Chains against the limit, and more outer half-edges.
 use Rattle.std.proofs.Common.{◌≡◌, ℕ, ◌≤◌, ◌+◌, List, [], ◌∷◌, ◌⊎◌, inl, inr, refl, arith, suc, zero, Bool, true, false}
-use Rattle.half_edges.specs.Rotation.{Rotation}
+use Rattle.rotation_systems.specs.RotationSystem.{RotationSystem}
 use Rattle.cover_walks.specs.Orders.{Joined, at_outer, by_along, by_back, by_across, Encloses}
 use Rattle.cover_walks.specs.Chains.{limit_of}
 
@@ -13,7 +13,7 @@ within_limit b o (suc n) true f k (inr h) = let e = f refl in let z = h.1 in abs
 within_limit b o (suc n) false f k (inl h) = omega arith
 within_limit b o (suc n) false f k (inr h) = let z = h.0 in omega arith
 
-module _ (g : Rotation) (A B : ℕ → Type 0) (f : (s : ℕ) → A s → B s) where
+module _ (g : RotationSystem) (A B : ℕ → Type 0) (f : (s : ℕ) → A s → B s) where
   joined_wider : (l : List ℕ) {s : ℕ} → Joined g A l s → Joined g B l s
   joined_wider l (at_outer {s} o) = at_outer (f s o)
   joined_wider l (by_along j) = by_along (joined_wider l j)

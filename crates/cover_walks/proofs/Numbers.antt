@@ -2,7 +2,7 @@
 use Rattle.std.proofs.Common.{◌≡◌, ℕ, ◌<◌, ◌≢◌, ◌+◌, ◌*◌, ◌⊎◌, inl, inr, refl, sym, ap, arith, ◌∙◌, cond, zero, suc}
 use Rattle.std.proofs.lemmas.Bool.Decides.{eqb_tells}
 use Rattle.std.proofs.lemmas.Bool.{eq-eqb}
-use Rattle.half_edges.specs.Rotation.{same, total}
+use Rattle.rotation_systems.specs.RotationSystem.{same, total}
 use Rattle.cover_walks.specs.Walks.{differ}
 
 pub same_tells : (u v : ℕ) → ((u ≡ v) × (same u v ≡ 1)) ⊎ ((u ≢ v) × (same u v ≡ 0))

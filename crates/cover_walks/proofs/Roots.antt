@@ -1,15 +1,15 @@
 -- Walks from the root, with nothing done.
 use Rattle.std.proofs.Common.{◌≡◌, ℕ, ◌≤◌, ◌≢◌, ◌+◌, ◌%◌, List, [], ◌∷◌, refl, sym, ap, subst, arith, ◌∙◌, inl, suc}
-use Rattle.half_edges.specs.Rotation.{Rotation, IsRotation, same, degree}
-use Rattle.cover_walks.specs.Walks.{IsExhausted, Leaves, Walking, IsCounted, breaks, breaks_after, ends, is_odd, odd_count}
+use Rattle.rotation_systems.specs.RotationSystem.{RotationSystem, IsRotationSystem, same, degree}
+use Rattle.cover_walks.specs.Walks.{IsExhausted, TopLeaves, Walking, IsCounted, breaks, breaks_after, ends, is_odd, odd_count}
 use Rattle.cover_walks.proofs.Numbers.{differ_same, same_same, same_other}
 use Rattle.cover_walks.proofs.Parity.{walk_flips, exhausted_even}
 use Rattle.cover_walks.proofs.Steps.{follow_again}
 use Rattle.cover_walks.proofs.Finish.{counted_first}
 
 -- the first one begins
-pub start_walk : (g : Rotation) (part : ℕ → ℕ) (start avoid : ℕ) → Walking g part (part (g.from start)) start avoid (g.from start) (g.from start) [] [] []
-start_walk g part start avoid = record {
+pub start_walk : (g : RotationSystem) (component : ℕ → ℕ) (start avoid : ℕ) → Walking g component (component (g.from start)) start avoid (g.from start) (g.from start) [] [] []
+start_walk g component start avoid = record {
   laid = record { inside = tt; once = tt; grows = tt; last = tt };
   place = refl;
   stands = inl (refl, refl);
@@ -21,17 +21,17 @@ start_walk g part start avoid = record {
 }
 
 -- the top of the stack makes no break with the vertex that it leaves
-pub breaks_of_top : (g : Rotation) (z : ℕ) (stack : List ℕ) → Leaves g z stack → breaks g stack ≡ breaks_after g z stack
+pub breaks_of_top : (g : RotationSystem) (z : ℕ) (stack : List ℕ) → TopLeaves g z stack → breaks g stack ≡ breaks_after g z stack
 breaks_of_top g z [] k = absurd k
 breaks_of_top g z (a ∷ l) k = let e = differ_same z (g.from a) (sym k) in omega arith
 
-module _ (g : Rotation) (part : ℕ → ℕ) (c start avoid z : ℕ) (base stack : List ℕ)
-    (w : Walking g part c start avoid (g.from start) z [] base stack) (leaves : Leaves g z stack) where
+module _ (g : RotationSystem) (component : ℕ → ℕ) (c start avoid z : ℕ) (base stack : List ℕ)
+    (w : Walking g component c start avoid (g.from start) z [] base stack) (leaves : TopLeaves g z stack) where
   pub root_breaks : breaks g stack ≡ breaks_after g (g.from start) base
   root_breaks = breaks_of_top g z stack leaves ∙ w.breaks
 
   -- another may begin
-  pub root_again : part (g.from start) ≡ c → (other : ℕ) → IsExhausted g stack z → Walking g part c start other (g.from start) (g.from start) [] stack stack
+  pub root_again : component (g.from start) ≡ c → (other : ℕ) → IsExhausted g stack z → Walking g component c start other (g.from start) (g.from start) [] stack stack
   root_again at other h = record {
     laid = w.laid;
     place = at;
@@ -43,13 +43,13 @@ module _ (g : Rotation) (part : ℕ → ℕ) (c start avoid z : ℕ) (base stack
     ends = λ v. omega arith;
   }
 
-module _ (g : Rotation) (r : IsRotation g) (part : ℕ → ℕ) (c start avoid z : ℕ) (base stack : List ℕ)
-    (w : Walking g part c start avoid (g.from start) z [] base stack) (leaves : Leaves g z stack) (h : IsExhausted g stack z) where
+module _ (g : RotationSystem) (r : IsRotationSystem g) (component : ℕ → ℕ) (c start avoid z : ℕ) (base stack : List ℕ)
+    (w : Walking g component c start avoid (g.from start) z [] base stack) (leaves : TopLeaves g z stack) (h : IsExhausted g stack z) where
   pub root_flips : (v : ℕ) → (is_odd g stack v + (same (g.from start) v + same z v)) % 2 ≡ is_odd g base v
-  root_flips = walk_flips g r part c start avoid (g.from start) z [] base stack w
+  root_flips = walk_flips g r component c start avoid (g.from start) z [] base stack w
 
   end_even : is_odd g stack z ≡ 0
-  end_even = exhausted_even g r part c stack z w.laid.inside w.laid.once h
+  end_even = exhausted_even g r component c stack z w.laid.inside w.laid.once h
 
   -- a walk that begins where the root is odd is open, and leaves it even
   module _ (odd : is_odd g base (g.from start) ≡ 1) where
@@ -69,8 +69,8 @@ module _ (g : Rotation) (r : IsRotation g) (part : ℕ → ℕ) (c start avoid z
         omega arith
 
     -- so the count is one less
-    pub first_within : (vertices most : ℕ) → IsCounted g part c vertices most (g.from start) [] stack → suc (breaks g stack + odd_count g part c vertices stack) ≤ most
-    first_within vertices most k = counted_first g part c (g.from start) vertices most z stack k leaves open_end root_even
+    pub first_within : (vertices most : ℕ) → IsCounted g component c vertices most (g.from start) [] stack → suc (breaks g stack + odd_count g component c vertices stack) ≤ most
+    first_within vertices most k = counted_first g component c (g.from start) vertices most z stack k leaves open_end root_even
 
   -- an open walk that begins where the root is even leaves it odd
   pub then_odd : z ≢ g.from start → is_odd g base (g.from start) ≡ 0 → is_odd g stack (g.from start) ≡ 1
@@ -81,11 +81,11 @@ module _ (g : Rotation) (r : IsRotation g) (part : ℕ → ℕ) (c start avoid z
       omega arith
 
 -- the first walk was closed: all parities are as at first, and the root has an even number of edges
-module _ (g : Rotation) (r : IsRotation g) (part : ℕ → ℕ) (c start avoid z : ℕ) (stack : List ℕ)
-    (w : Walking g part c start avoid (g.from start) z [] [] stack) (leaves : Leaves g z stack) (h : IsExhausted g stack z) (at_root : z ≡ g.from start) where
+module _ (g : RotationSystem) (r : IsRotationSystem g) (component : ℕ → ℕ) (c start avoid z : ℕ) (stack : List ℕ)
+    (w : Walking g component c start avoid (g.from start) z [] [] stack) (leaves : TopLeaves g z stack) (h : IsExhausted g stack z) (at_root : z ≡ g.from start) where
   pub closed_first : (breaks g stack ≡ 0) × ((v : ℕ) → ends g stack v % 2 ≡ 0)
   closed_first = (
-    root_breaks g part c start avoid z [] stack w leaves,
+    root_breaks g component c start avoid z [] stack w leaves,
     λ v.
         let e = w.ends v in
         let s : same z v ≡ same (g.from start) v = ap (λ u. same u v) at_root in
@@ -94,6 +94,6 @@ module _ (g : Rotation) (r : IsRotation g) (part : ℕ → ℕ) (c start avoid z
 
   pub closed_root : degree g (g.from start) % 2 ≡ 0
   closed_root =
-      let even = exhausted_even g r part c stack (g.from start) w.laid.inside w.laid.once (subst (λ v. IsExhausted g stack v) at_root h) in
+      let even = exhausted_even g r component c stack (g.from start) w.laid.inside w.laid.once (subst (λ v. IsExhausted g stack v) at_root h) in
       let e = closed_first.1 (g.from start) in
       omega arith

@@ -1,15 +1,15 @@
 -- A scan round a vertex goes on past what is burnt, and comes to an end.
 use Rattle.std.proofs.Common.{◌≡◌, ℕ, ◌<◌, ◌≤◌, ◌≢◌, ◌+◌, ◌⊎◌, inl, inr, sym, ap, subst, arith, ◌∙◌, suc, zero, below_more, add-one, Bool, true, false, IsTrue, refl}
 use Rattle.std.proofs.lemmas.Bool.{cases_eq, cases_lt}
-use Rattle.half_edges.specs.Rotation.{Rotation, IsRotation, turn, back, degree}
-use Rattle.cover_walks.specs.Choices.{HasUnburnt, AllBurnt, Turned, PassesCcw, PassesCw}
-use Rattle.cover_walks.proofs.Turns.{turn_in, turn_from, back_in, whole_back}
+use Rattle.rotation_systems.specs.RotationSystem.{RotationSystem, IsRotationSystem, turn, degree}
+use Rattle.cover_walks.specs.Choices.{HasUnburnt, AllBurnt, Turned, Passes}
+use Rattle.cover_walks.proofs.Turns.{turn_in, turn_from}
 
-module _ (g : Rotation) (r : IsRotation g) (burnt : ℕ → Bool) (a avoid : ℕ) (in_a : a < g.sides) where
-  pub passes_in : {k t : ℕ} → PassesCcw g burnt a avoid k t → t < g.sides
+module _ (g : RotationSystem) (r : IsRotationSystem g) (burnt : ℕ → Bool) (a avoid : ℕ) (in_a : a < g.sides) where
+  pub passes_in : {k t : ℕ} → Passes g burnt a avoid k t → t < g.sides
   passes_in {k} p = subst (λ s. s < g.sides) (sym p.at) (turn_in g r (suc k) a in_a)
 
-  pub passes_next : {k t u : ℕ} → PassesCcw g burnt a avoid k t → IsTrue (burnt t) → t ≢ avoid → u ≡ g.ccw t → PassesCcw g burnt a avoid (k + 1) u
+  pub passes_next : {k t u : ℕ} → Passes g burnt a avoid k t → IsTrue (burnt t) → t ≢ avoid → u ≡ g.ccw t → Passes g burnt a avoid (k + 1) u
   passes_next {k} {t} p b n e = record {
     at = rw add-one (e ∙ ap g.ccw p.at);
     passed = below_more (λ j. IsTrue (burnt (turn g (suc j) a)) × (turn g (suc j) a ≢ avoid)) k p.passed
@@ -17,28 +17,12 @@ module _ (g : Rotation) (r : IsRotation g) (burnt : ℕ → Bool) (a avoid : ℕ
   }
 
   -- as many steps as half-edges leave the vertex would pass all of them
-  pub passes_no_end : {k t : ℕ} → PassesCcw g burnt a avoid k t → degree g (g.from a) ≤ k → HasUnburnt g burnt (g.from a) → ⊥
+  pub passes_no_end : {k t : ℕ} → Passes g burnt a avoid k t → degree g (g.from a) ≤ k → HasUnburnt g burnt (g.from a) → ⊥
   passes_no_end {k} p l (s, b, e, n) =
       let w = r.whole a s in_a b e in
       n (subst (λ s. IsTrue (burnt s)) w.2 (p.passed w.0 (omega (arith, w.1))).0)
 
-  -- clockwise
-  pub passes_back_in : {k t : ℕ} → PassesCw g burnt a avoid k t → t < g.sides
-  passes_back_in {k} p = subst (λ s. s < g.sides) (sym p.at) (back_in g r (suc k) a in_a)
-
-  pub passes_back_next : {k t u : ℕ} → PassesCw g burnt a avoid k t → IsTrue (burnt t) → t ≢ avoid → u ≡ g.cw t → PassesCw g burnt a avoid (k + 1) u
-  passes_back_next {k} {t} p b n e = record {
-    at = rw add-one (e ∙ ap g.cw p.at);
-    passed = below_more (λ j. IsTrue (burnt (back g (suc j) a)) × (back g (suc j) a ≢ avoid)) k p.passed
-        (subst (λ s. IsTrue (burnt s) × (s ≢ avoid)) p.at (b, n));
-  }
-
-  pub passes_back_no_end : {k t : ℕ} → PassesCw g burnt a avoid k t → degree g (g.from a) ≤ k → HasUnburnt g burnt (g.from a) → ⊥
-  passes_back_no_end {k} p l (s, b, e, n) =
-      let w = whole_back g r a s in_a b e in
-      n (subst (λ s. IsTrue (burnt s)) w.2 (p.passed w.0 (omega (arith, w.1))).0)
-
-module _ (g : Rotation) (r : IsRotation g) (burnt : ℕ → Bool) (a : ℕ) (in_a : a < g.sides) where
+module _ (g : RotationSystem) (r : IsRotationSystem g) (burnt : ℕ → Bool) (a : ℕ) (in_a : a < g.sides) where
   pub turned_in : {k t : ℕ} → Turned g burnt a k t → t < g.sides
   turned_in {k} p = subst (λ s. s < g.sides) (sym p.at) (turn_in g r k a in_a)
 
@@ -59,7 +43,7 @@ module _ (g : Rotation) (r : IsRotation g) (burnt : ℕ → Bool) (a : ℕ) (in_
       subst (λ s. IsTrue (burnt s)) w.2 (p.passed w.0 (omega (arith, w.1)))
 
 -- a vertex has an unburnt half-edge, or all are burnt
-pub find_unburnt : (g : Rotation) (burnt : ℕ → Bool) (v : ℕ) → AllBurnt g burnt v ⊎ HasUnburnt g burnt v
+pub find_unburnt : (g : RotationSystem) (burnt : ℕ → Bool) (v : ℕ) → AllBurnt g burnt v ⊎ HasUnburnt g burnt v
 find_unburnt g burnt v = elim (below g.sides) [ inl h ↦ inl (λ s b e. h s b b e) | inr k ↦ inr k ]
   where
     test : (b : Bool) → IsTrue b ⊎ (IsTrue b → ⊥)

@@ -1,14 +1,14 @@
 -- The first walk was closed, and so were others; now the first open one has ended. What is done is given up, and the stack stays.
 use Rattle.std.proofs.Common.{◌≡◌, ℕ, ◌<◌, ◌≤◌, ◌≢◌, ◌+◌, ◌%◌, List, [], ◌∷◌, ◌++◌, ◌⊎◌, inl, inr, refl, sym, ap, subst, arith, ◌∙◌}
-use Rattle.half_edges.specs.Rotation.{Rotation, IsRotation, to, same, degree}
+use Rattle.rotation_systems.specs.RotationSystem.{RotationSystem, IsRotationSystem, to, same, degree}
 use Rattle.cover_walks.specs.Orders.{Has, Once, Grows}
-use Rattle.cover_walks.specs.Walks.{EndsAt, IsExhausted, AllFinished, CanFollow, IsStack, Leaves, breaks_after, ends, is_odd, odd_within, odd_count, Laid, Walking, Exhausting, IsCounted}
+use Rattle.cover_walks.specs.Walks.{EndsAt, IsExhausted, AllFinished, CanFollow, IsStack, TopLeaves, breaks_after, ends, is_odd, odd_within, odd_count, Laid, Walking, Exhausting, IsCounted}
 use Rattle.cover_walks.proofs.Numbers.{differ_tells, same_same, same_other, total_two}
 use Rattle.cover_walks.proofs.Holdings.{inside_rest}
 use Rattle.cover_walks.proofs.Parity.{exhausted_even, ends_append, within_at, within_same}
 
 -- the stack alone is as good an order
-module _ (g : Rotation) where
+module _ (g : RotationSystem) where
   grows_rest : (Outer : ℕ → Type 0) (done stack : List ℕ) → Grows g Outer (done ++ stack) → Grows g Outer stack
   grows_rest Outer [] stack h = h
   grows_rest Outer (a ∷ done) stack h = grows_rest Outer done stack h.1
@@ -23,16 +23,16 @@ module _ (g : Rotation) where
   ends_rest v (a ∷ []) (b ∷ stack) h = h
   ends_rest v (a ∷ b ∷ done) stack h = ends_rest v (b ∷ done) stack h
 
-  pub laid_rest : (part : ℕ → ℕ) (c start : ℕ) (done stack : List ℕ) → Laid g part c start (done ++ stack) → Laid g part c start stack
-  laid_rest part c start done stack h = record {
-    inside = inside_rest g part c done stack h.inside;
+  pub laid_rest : (component : ℕ → ℕ) (c start : ℕ) (done stack : List ℕ) → Laid g component c start (done ++ stack) → Laid g component c start stack
+  laid_rest component c start done stack h = record {
+    inside = inside_rest g component c done stack h.inside;
     once = once_rest done stack h.once;
     grows = grows_rest (λ s. s ≡ start) done stack h.grows;
     last = ends_rest (g.from start) done stack h.last;
   }
 
 -- a stack without breaks is a trail from z to the root
-module _ (g : Rotation) (root : ℕ) where
+module _ (g : RotationSystem) (root : ℕ) where
   pub trail_ends : (l : List ℕ) (x z : ℕ) (stack : List ℕ) → CanFollow g l root x z stack → IsStack g l root x stack → breaks_after g z stack ≡ 0 →
       (v : ℕ) → (ends g stack v + (same z v + same root v)) % 2 ≡ 0
   trail_ends l x z [] k s b v = let e : same z v ≡ same root v = ap (λ u. same u v) k in omega arith
@@ -60,7 +60,7 @@ module _ (g : Rotation) (root : ℕ) where
   from_root all (a ∷ stack) h (inl e) = inr (subst (λ v. IsExhausted g all v) (sym e) h, inl refl)
   from_root all (a ∷ stack) h (inr k) = inr (k.0, inl refl)
 
-module _ (g : Rotation) where
+module _ (g : RotationSystem) where
   -- a vertex with none of the edges that are done is exhausted without them
   exhausted_rest : (done stack : List ℕ) (v : ℕ) → ((s : ℕ) → Has g done s → g.from s ≢ v) → IsExhausted g (done ++ stack) v → IsExhausted g stack v
   exhausted_rest done stack v n h s b e = go done n (h s b e)
@@ -83,9 +83,9 @@ module _ (g : Rotation) where
       ]
   ends_done l avoid x (a ∷ done) h e s (inr (inr b)) = ends_done l avoid x done h.2 e s b
 
-module _ (g : Rotation) (r : IsRotation g) (part : ℕ → ℕ) (c : ℕ) (start avoid x y : ℕ) (done base stack : List ℕ)
-    (e : Exhausting g part c start avoid x done base)
-    (w : Walking g part c start avoid x y done base stack)
+module _ (g : RotationSystem) (r : IsRotationSystem g) (component : ℕ → ℕ) (c : ℕ) (start avoid x y : ℕ) (done base stack : List ℕ)
+    (e : Exhausting g component c start avoid x done base)
+    (w : Walking g component c start avoid x y done base stack)
     (h : IsExhausted g (done ++ stack) y)
     (unbroken : breaks_after g x base ≡ 0)
     (closed : (v : ℕ) → ends g (done ++ base) v % 2 ≡ 0)
@@ -97,7 +97,7 @@ module _ (g : Rotation) (r : IsRotation g) (part : ℕ → ℕ) (c : ℕ) (start
       let a = ends_append g done stack y in
       let b = ends_append g done base y in
       let m = w.ends y in
-      let even = exhausted_even g r part c (done ++ stack) y w.laid.inside w.laid.once h in
+      let even = exhausted_even g r component c (done ++ stack) y w.laid.inside w.laid.once h in
       let yy : same y y ≡ 1 = same_same y y refl in
       let xy : same x y ≡ 0 = same_other x y opened in
       omega arith
@@ -114,18 +114,18 @@ module _ (g : Rotation) (r : IsRotation g) (part : ℕ → ℕ) (c : ℕ) (start
   still_exhausted = exhausted_rest g done stack y
       (λ s k q. elim (ends_done g (done ++ base) avoid x done e.finished e.ends_at s k) [
         | inl p ↦
-            let even = exhausted_even g r part c (done ++ base) y e.laid.inside e.laid.once (subst (λ v. IsExhausted g (done ++ base) v) q p) in
+            let even = exhausted_even g r component c (done ++ base) y e.laid.inside e.laid.once (subst (λ v. IsExhausted g (done ++ base) v) q p) in
             let o = was_odd in
             absurd (omega arith)
         | inr p ↦ opened (sym p ∙ q)
       ]) h
 
   -- a walk from the root begins on the stack alone
-  pub unburnt : (none : ℕ) → part (g.from start) ≡ c → Walking g part c start none (g.from start) (g.from start) [] stack stack
+  pub unburnt : (none : ℕ) → component (g.from start) ≡ c → Walking g component c start none (g.from start) (g.from start) [] stack stack
   unburnt none at_c =
       let t = trail_stack g (g.from start) (done ++ stack) stack x y (g.from start) stack w.follow w.shape (w.breaks ∙ unbroken) in
       record {
-        laid = laid_rest g part c start done stack w.laid;
+        laid = laid_rest g component c start done stack w.laid;
         place = at_c;
         stands = inl (refl, refl);
         finished = tt;
@@ -143,18 +143,18 @@ module _ (g : Rotation) (r : IsRotation g) (part : ℕ → ℕ) (c : ℕ) (start
       omega arith
 
   -- there are as many odd vertices as at first: the root in place of y
-  pub counted : (vertices : ℕ) → y < vertices → g.from start < vertices → part (g.from start) ≡ c → IsCounted g part c vertices (odd_count g part c vertices []) (g.from start) [] stack
+  pub counted : (vertices : ℕ) → y < vertices → g.from start < vertices → component (g.from start) ≡ c → IsCounted g component c vertices (odd_count g component c vertices []) (g.from start) [] stack
   counted vertices by bx of_root =
       let zero = w.breaks ∙ unbroken in
-      let two = total_two (λ v. odd_within g part c stack v) (λ v. odd_within g part c [] v) (g.from start) y vertices bx by (λ q. not_root (sym q))
-      (λ s nr ny. within_same g part c stack [] s (agree s nr ny)) in
-      let fx = within_at g part c stack (g.from start) of_root in
-      let fy = within_at g part c stack y w.place in
-      let hx = within_at g part c [] (g.from start) of_root in
-      let hy = within_at g part c [] y w.place in
-      let rest = laid_rest g part c start done stack w.laid in
+      let two = total_two (λ v. odd_within g component c stack v) (λ v. odd_within g component c [] v) (g.from start) y vertices bx by (λ q. not_root (sym q))
+      (λ s nr ny. within_same g component c stack [] s (agree s nr ny)) in
+      let fx = within_at g component c stack (g.from start) of_root in
+      let fy = within_at g component c stack y w.place in
+      let hx = within_at g component c [] (g.from start) of_root in
+      let hy = within_at g component c [] y w.place in
+      let rest = laid_rest g component c start done stack w.laid in
       let odd_root = root_odd in
-      let even = exhausted_even g r part c stack y rest.inside rest.once still_exhausted in
+      let even = exhausted_even g r component c stack y rest.inside rest.once still_exhausted in
       let was : is_odd g [] y ≡ 1 = start_odd in
       let few = at_most_one stack w.stands zero in
       omega arith
@@ -169,7 +169,7 @@ module _ (g : Rotation) (r : IsRotation g) (part : ℕ → ℕ) (c : ℕ) (start
           let b : same (g.from start) s ≡ 0 = same_other (g.from start) s (λ q. nr (sym q)) in
           omega arith
 
-      at_most_one : (stack : List ℕ) → ((y ≡ x) × (stack ≡ base)) ⊎ Leaves g y stack → breaks_after g y stack ≡ 0 → breaks_after g (g.from start) stack ≤ 1
+      at_most_one : (stack : List ℕ) → ((y ≡ x) × (stack ≡ base)) ⊎ TopLeaves g y stack → breaks_after g y stack ≡ 0 → breaks_after g (g.from start) stack ≤ 1
       at_most_one stack (inl q) z = absurd (opened (sym q.0))
       at_most_one [] (inr q) z = omega arith
       at_most_one (a ∷ stack) (inr q) z =

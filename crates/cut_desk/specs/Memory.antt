@@ -96,8 +96,8 @@ abbrev pub after_read : List ℕ → ℕ → List ℕ → List ℕ
 after_read file at buffer = take (length buffer) (drop at file) ++ drop (length file - at) buffer
 
 -- what a desk in memory shows: all of it, and its one count of faults
-abbrev pub shown : Memory → Outside
-shown desk = record {
+abbrev pub outside_of : Memory → Outside
+outside_of desk = record {
   held = λ name. Some (file_of desk name);
   printed = Some desk.printed;
   read_faults = λ _. desk.faults;

@@ -1,7 +1,7 @@
 //! A desk that keeps everything in memory, and fails where it is told to.
 ghost use Rattle.std.specs.Prelude.{◌≡◌, ◌≤◌, ◌<◌, ◌+◌, ◌-◌, ◌^◌, ◌∷◌, ◌++◌, [], Some, OnOk, OnErr, IfOk, IfSome, is_err, length, min, not, option_copied};
 ghost use Rattle.cut_desk.specs.Outside.{IsEnd, bytes_after_write};
-ghost use Rattle.cut_desk.specs.Memory.{Memory, SameStored, GrowsRoom, ReplacesFile, empty_desk, file_of, room_of, is_to_fail, fails_read, fails_write, fails_print, after_call, after_fault, after_read, shown};
+ghost use Rattle.cut_desk.specs.Memory.{Memory, SameStored, GrowsRoom, ReplacesFile, empty_desk, file_of, room_of, is_to_fail, fails_read, fails_write, fails_print, after_call, after_fault, after_read, outside_of};
 
 use crate::desk::{Desk, Failed};
 use crate::slot::{self, Slot};
@@ -130,7 +130,7 @@ impl MemoryDesk {
 }
 
 impl Desk for MemoryDesk {
-    ghost seen = { shown };
+    ghost seen = { outside_of };
 
     /// Copies all that `into` takes of the file from `at` on. It takes no memory.
     ///

@@ -1,5 +1,6 @@
 //! Whole files over any desk, in as many calls as the desk wants.
 ghost use Rattle.std.specs.Prelude.{◌≡◌, ◌≤◌, ◌<◌, ◌^◌, ◌⊎◌, IfOk, OnOk, OnErr, IsErrOf, Some, None, length, vec_len};
+ghost use Rattle.nest_base.specs.Limits.{most_bytes};
 ghost use Rattle.cut_desk.specs.Outside.{Rose, Later, SameHeld, SameFiles, SameOthers, WhereTold, IsTold, IsPartlyWritten, IsPartlyPrinted, made_of, print_more};
 
 use crate::desk::{Desk, Failed};
@@ -34,7 +35,7 @@ pub fn read_whole<D: Desk>(
     name: &str,
     limit: u64,
 ) -> Result<Vec<u8>, ReadError>
-    requires { limit ≤ 2 ^ 26 }
+    requires { limit ≤ most_bytes }
     ensures whole { IfOk result (λ bytes. IsTold ((D.seen desk.old).held name.now) bytes.items) }
     ensures short { IfOk result (λ bytes. vec_len bytes ≤ limit) }
 

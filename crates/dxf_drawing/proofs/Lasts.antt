@@ -4,9 +4,9 @@ use Rattle.std.specs.Prelude.{Option, option_map}
 use Rattle.std.specs.List.{last_or}
 use Rattle.dxf_groups.specs.Pairs.{Pair}
 use Rattle.dxf_entities.specs.Entities.{Entity, with_pair}
-use Rattle.dxf_drawing.specs.declared.standing.Standing.{Standing}
-use Rattle.dxf_drawing.specs.declared.standing.Standing.TheVariants.{Outside, Inside, Skipping, Drawing}
-use Rattle.dxf_drawing.specs.Standings.{closing, gives, behind, gifts_from, standing_from, last_entity}
+use Rattle.dxf_drawing.specs.declared.state.State.{State}
+use Rattle.dxf_drawing.specs.declared.state.State.TheVariants.{Outside, Inside, Skipping, InPolyline}
+use Rattle.dxf_drawing.specs.States.{closing_events, events_at, state_after, events_from, state_from, last_entity}
 use Rattle.dxf_drawing.proofs.Entities.{grown}
 
 last_or-append : (o : Option Entity) (entities : List Entity) (e : Entity) → last_or o (entities ++ e ∷ []) ≡ Some e
@@ -26,25 +26,25 @@ pub last_entity-grown : (p : Pair) (entities : List Entity) → last_entity (gro
 last_entity-grown p [] = refl
 last_entity-grown p (e ∷ more) = last_or-grown p None e more
 
--- it stands where it stood
-pub standing_from-grown : (p : Pair) (standing : Standing) (entities : List Entity) → standing_from standing (grown p entities) ≡ standing_from standing entities
-standing_from-grown p standing [] = refl
-standing_from-grown p standing (e ∷ []) = refl
-standing_from-grown p standing (e ∷ f ∷ []) = refl
-standing_from-grown p standing (e ∷ f ∷ g ∷ more) = standing_from-grown p (behind standing e) (f ∷ g ∷ more)
+-- and the state stays
+pub state_from-grown : (p : Pair) (state : State) (entities : List Entity) → state_from state (grown p entities) ≡ state_from state entities
+state_from-grown p state [] = refl
+state_from-grown p state (e ∷ []) = refl
+state_from-grown p state (e ∷ f ∷ []) = refl
+state_from-grown p state (e ∷ f ∷ g ∷ more) = state_from-grown p (state_after state e) (f ∷ g ∷ more)
 
 -- whether an entity closes a polyline depends on its name alone
-closing-grown : (p : Pair) (standing : Standing) (e : Entity) → closing standing (with_pair p e) ≡ closing standing e
-closing-grown p Outside e = refl
-closing-grown p Inside e = refl
-closing-grown p Skipping e = refl
-closing-grown p (Drawing false trail) e = refl
-closing-grown p (Drawing true None) e = refl
-closing-grown p (Drawing true (Some t)) e = refl
+closing_events-grown : (p : Pair) (state : State) (e : Entity) → closing_events state (with_pair p e) ≡ closing_events state e
+closing_events-grown p Outside e = refl
+closing_events-grown p Inside e = refl
+closing_events-grown p Skipping e = refl
+closing_events-grown p (InPolyline false polyline) e = refl
+closing_events-grown p (InPolyline true None) e = refl
+closing_events-grown p (InPolyline true (Some t)) e = refl
 
 -- so all give what they gave
-pub gifts_from-grown : (p : Pair) (standing : Standing) (entities : List Entity) → gifts_from standing (grown p entities) ≡ gifts_from standing entities
-gifts_from-grown p standing [] = refl
-gifts_from-grown p standing (e ∷ []) = closing-grown p standing e
-gifts_from-grown p standing (e ∷ f ∷ []) = ap (λ later. closing standing e ++ gives standing e ++ later) (closing-grown p (behind standing e) f)
-gifts_from-grown p standing (e ∷ f ∷ g ∷ more) = ap (λ later. closing standing e ++ gives standing e ++ later) (gifts_from-grown p (behind standing e) (f ∷ g ∷ more))
+pub events_from-grown : (p : Pair) (state : State) (entities : List Entity) → events_from state (grown p entities) ≡ events_from state entities
+events_from-grown p state [] = refl
+events_from-grown p state (e ∷ []) = closing_events-grown p state e
+events_from-grown p state (e ∷ f ∷ []) = ap (λ later. closing_events state e ++ events_at state e ++ later) (closing_events-grown p (state_after state e) f)
+events_from-grown p state (e ∷ f ∷ g ∷ more) = ap (λ later. closing_events state e ++ events_at state e ++ later) (events_from-grown p (state_after state e) (f ∷ g ∷ more))

@@ -1,6 +1,7 @@
-pub mod Gifts
-pub mod Standings
+pub mod Events
+pub mod States
 pub mod Drawings
-pub mod Kept
-pub mod Contents
+pub mod Examples
+pub mod DrawingBuilder
+pub mod EntityReader
 pub mod Reading

@@ -2,13 +2,14 @@
 ghost use Rattle.std.specs.Prelude.{◌≡◌, ◌<◌, ◌+◌, ◌^◌, ℕ, Option, [], ◌∷◌, ◌++◌, List, Some, None, OnOk, IfOk, IfErr, IfSome, IfNone, All, is_some};
 ghost use Rattle.dxf_groups.specs.Pairs.{Pair};
 ghost use Rattle.dxf_groups.specs.Steps.{gives_pair};
-ghost use Rattle.dxf_drawing.specs.Contents.{ContentsAt};
+ghost use Rattle.dxf_drawing.specs.EntityReader.{EntityReaderAt};
 ghost use Rattle.dxf_groups.specs.Laws.{listed};
 ghost use Rattle.dxf_drawing.specs.Reading.{ReaderAt, IsAtTheEnd, IsFound, IsRead};
 ghost use Rattle.dxf_drawing.specs.Drawings.{read_refusal_of};
-ghost use Rattle.nest_base.specs.Range.{IsSegmentWithin};
+ghost use Rattle.nest_base.specs.Range.{IsSegmentWithin, range};
+ghost use Rattle.nest_base.specs.Limits.{most_bytes};
 
-use crate::contents::Contents;
+use crate::entity_reader::EntityReader;
 use dxf_entities::DrawingError;
 use dxf_groups::{Found, Groups};
 use nest_base::{Drawing, OutOfMemory};
@@ -18,7 +19,7 @@ use std::alloc::Global;
 #[derive(Drop)]
 pub struct Reader {
     groups: Groups,
-    contents: Contents,
+    entities: EntityReader,
 }
 
 impl Reader {
@@ -30,13 +31,13 @@ impl Reader {
         let groups = Groups::new(alloc)?;
         Ok(Reader {
             groups,
-            contents: Contents::new(alloc),
+            entities: EntityReader::new(alloc),
         })
     }
 
     /// Takes the next byte.
     pub fn take(&mut self, alloc: Global, byte: u8) -> Result<(), OutOfMemory>
-        requires few { self.old.groups.taken < 2 ^ 26 }
+        requires few { self.old.groups.taken < most_bytes }
         requires not_ended { self.old.groups.answer ≡ None }
         ensures at { OnOk result ((bytes : List ℕ) → ReaderAt self.old bytes → ReaderAt self.new (bytes ++ byte ∷ [])) }
         ensures counted { self.new.groups.taken ≡ self.old.groups.taken + 1 }
@@ -61,12 +62,12 @@ impl Reader {
     pub fn into_drawing(self) -> Result<Drawing, DrawingError>
         ensures ok { IfOk result (λ drawing. (bytes : List ℕ) → IsAtTheEnd self bytes → IsRead bytes drawing) }
         ensures err { IfErr result (λ why. (bytes : List ℕ) → IsAtTheEnd self bytes → read_refusal_of bytes ≡ Some why) }
-        ensures within { IfOk result (λ drawing. All (IsSegmentWithin 100000000) drawing.segments) }
+        ensures within { IfOk result (λ drawing. All (IsSegmentWithin range) drawing.segments) }
     {
         if let Some(fault) = self.groups.fault() {
             return Err(DrawingError::Groups(fault));
         }
-        let drawing = match self.contents.into_drawing() {
+        let drawing = match self.entities.into_drawing() {
             Ok(drawing) => drawing,
             Err(why) => return Err(why),
         };
@@ -79,13 +80,13 @@ impl Reader {
     /// Takes the pair that was found, where one was.
     fn take_found(&mut self, alloc: Global, found: Found) -> Result<(), OutOfMemory>
         requires { is_some self.old.groups.value ≡ gives_pair found }
-        ensures contents { OnOk result ((pairs : List Pair) (p : Option Pair) → IsFound found self.old.groups.value p → ContentsAt self.old.contents pairs → ContentsAt self.new.contents (pairs ++ listed p)) }
+        ensures entities { OnOk result ((pairs : List Pair) (p : Option Pair) → IsFound found self.old.groups.value p → EntityReaderAt self.old.entities pairs → EntityReaderAt self.new.entities (pairs ++ listed p)) }
         ensures groups { self.new.groups ≡ self.old.groups }
     {
         let Found::Pair { code, line } = found else {
             return Ok(());
         };
-        self.contents.take(alloc, code, self.groups.value(), line)?;
+        self.entities.take(alloc, code, self.groups.value(), line)?;
         Ok(())
     }
 }

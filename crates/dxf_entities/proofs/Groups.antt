@@ -13,7 +13,7 @@ use Rattle.dxf_entities.specs.declared.fault.Fault.{Fault}
 use Rattle.dxf_entities.specs.declared.values.Values.{Values}
 use Rattle.dxf_entities.specs.Groups.{code, use_of, read_as, Number, Test, Text, group_among}
 use Rattle.dxf_entities.specs.Refusals.{unless_near, unless_read, value_fault}
-use Rattle.dxf_entities.specs.Hand.{InHand, a_number, a_test, value_in, kept, with_value, with_read, with_new}
+use Rattle.dxf_entities.specs.EntityBuilder.{EntitySoFar, a_number, a_test, value_in, value_read, with_number, with_read, with_new}
 
 -- the group with a code
 group_with : ℕ → Option Group
@@ -97,25 +97,25 @@ test_kept : (o : Option Bool) (line : ℕ) → unless_read o line ≡ None → a
 test_kept None line e = absurd (cc)
 test_kept (Some b) line e = refl
 
-with_read_none : (f : Option Fault) (g : Group) (text : List ℕ) (h : InHand) → f ≡ None → with_read f g text h ≡ record h { values = with_value g text h.values }
+with_read_none : (f : Option Fault) (g : Group) (text : List ℕ) (h : EntitySoFar) → f ≡ None → with_read f g text h ≡ record h { values = with_number g text h.values }
 with_read_none None g text h e = refl
 with_read_none (Some fault) g text h e = absurd (cc)
 
 -- a new group whose value can be read is kept
-pub new_is_kept : (g : Group) (p : Pair) (h : InHand) → value_fault (use_of g) p.value p.line ≡ None → kept (with_new g p h) g ≡ Some (read_as (use_of g) p.value)
-new_is_kept StartX p h e = ap (λ m. kept m StartX) (with_read_none _ StartX p.value h e) ∙ near_kept _ p.line e
-new_is_kept StartY p h e = ap (λ m. kept m StartY) (with_read_none _ StartY p.value h e) ∙ near_kept _ p.line e
-new_is_kept EndX p h e = ap (λ m. kept m EndX) (with_read_none _ EndX p.value h e) ∙ near_kept _ p.line e
-new_is_kept EndY p h e = ap (λ m. kept m EndY) (with_read_none _ EndY p.value h e) ∙ near_kept _ p.line e
-new_is_kept Flags p h e = ap (λ m. kept m Flags) (with_read_none _ Flags p.value h e) ∙ number_kept _ p.line e
-new_is_kept Bulge p h e = ap (λ m. kept m Bulge) (with_read_none _ Bulge p.value h e) ∙ test_kept _ p.line e
-new_is_kept ExtrusionX p h e = ap (λ m. kept m ExtrusionX) (with_read_none _ ExtrusionX p.value h e) ∙ test_kept _ p.line e
-new_is_kept ExtrusionY p h e = ap (λ m. kept m ExtrusionY) (with_read_none _ ExtrusionY p.value h e) ∙ test_kept _ p.line e
-new_is_kept ExtrusionZ p h e = ap (λ m. kept m ExtrusionZ) (with_read_none _ ExtrusionZ p.value h e) ∙ test_kept _ p.line e
+pub new_is_kept : (g : Group) (p : Pair) (h : EntitySoFar) → value_fault (use_of g) p.value p.line ≡ None → value_read (with_new g p h) g ≡ Some (read_as (use_of g) p.value)
+new_is_kept StartX p h e = ap (λ m. value_read m StartX) (with_read_none _ StartX p.value h e) ∙ near_kept _ p.line e
+new_is_kept StartY p h e = ap (λ m. value_read m StartY) (with_read_none _ StartY p.value h e) ∙ near_kept _ p.line e
+new_is_kept EndX p h e = ap (λ m. value_read m EndX) (with_read_none _ EndX p.value h e) ∙ near_kept _ p.line e
+new_is_kept EndY p h e = ap (λ m. value_read m EndY) (with_read_none _ EndY p.value h e) ∙ near_kept _ p.line e
+new_is_kept Flags p h e = ap (λ m. value_read m Flags) (with_read_none _ Flags p.value h e) ∙ number_kept _ p.line e
+new_is_kept Bulge p h e = ap (λ m. value_read m Bulge) (with_read_none _ Bulge p.value h e) ∙ test_kept _ p.line e
+new_is_kept ExtrusionX p h e = ap (λ m. value_read m ExtrusionX) (with_read_none _ ExtrusionX p.value h e) ∙ test_kept _ p.line e
+new_is_kept ExtrusionY p h e = ap (λ m. value_read m ExtrusionY) (with_read_none _ ExtrusionY p.value h e) ∙ test_kept _ p.line e
+new_is_kept ExtrusionZ p h e = ap (λ m. value_read m ExtrusionZ) (with_read_none _ ExtrusionZ p.value h e) ∙ test_kept _ p.line e
 new_is_kept Content p h e = refl
 
 -- another value stays
-other_value : (f g : Group) (text : List ℕ) (v : Values) → (f ≡ g → ⊥) → value_in (with_value f text v) g ≡ value_in v g
+other_value : (f g : Group) (text : List ℕ) (v : Values) → (f ≡ g → ⊥) → value_in (with_number f text v) g ≡ value_in v g
 other_value StartX StartX text v other = absurd (other refl)
 other_value StartY StartY text v other = absurd (other refl)
 other_value EndX EndX text v other = absurd (other refl)
@@ -127,28 +127,28 @@ other_value ExtrusionY ExtrusionY text v other = absurd (other refl)
 other_value ExtrusionZ ExtrusionZ text v other = absurd (other refl)
 other_value f g text v other = refl
 
-pub same_values : (g : Group) (h m : InHand) → value_in m.values g ≡ value_in h.values g → m.text ≡ h.text → kept m g ≡ kept h g
+pub same_values : (g : Group) (h m : EntitySoFar) → value_in m.values g ≡ value_in h.values g → m.text ≡ h.text → value_read m g ≡ value_read h g
 same_values Content h m e t = ap (λ o. option_map Text o) t
 same_values g h m e t = e
 
-other_read : (o : Option Fault) (f g : Group) (text : List ℕ) (h : InHand) → (f ≡ g → ⊥) → kept (with_read o f text h) g ≡ kept h g
+other_read : (o : Option Fault) (f g : Group) (text : List ℕ) (h : EntitySoFar) → (f ≡ g → ⊥) → value_read (with_read o f text h) g ≡ value_read h g
 other_read (Some fault) f g text h other = same_values g h (record h { fault = Some fault }) refl refl
-other_read None f g text h other = same_values g h (record h { values = with_value f text h.values }) (other_value f g text h.values other) refl
+other_read None f g text h other = same_values g h (record h { values = with_number f text h.values }) (other_value f g text h.values other) refl
 
-other_text : (g : Group) (h : InHand) (text : Option (List ℕ)) → (Content ≡ g → ⊥) → kept (record h { text = text }) g ≡ kept h g
+other_text : (g : Group) (h : EntitySoFar) (text : Option (List ℕ)) → (Content ≡ g → ⊥) → value_read (record h { text = text }) g ≡ value_read h g
 other_text Content h text other = absurd (other refl)
 other_text g h text other = refl
 
 -- what is kept of another group stays
-pub other_is_kept : (f g : Group) (p : Pair) (h : InHand) → (f ≡ g → ⊥) → kept (with_new f p h) g ≡ kept h g
+pub other_is_kept : (f g : Group) (p : Pair) (h : EntitySoFar) → (f ≡ g → ⊥) → value_read (with_new f p h) g ≡ value_read h g
 other_is_kept Content g p h other = other_text g h (Some p.value) other
 other_is_kept f g p h other = other_read (value_fault (use_of f) p.value p.line) f g p.value h other
 
-fault_of_read : (o : Option Fault) (g : Group) (text : List ℕ) (h : InHand) → h.fault ≡ None → (with_read o g text h).fault ≡ o
+fault_of_read : (o : Option Fault) (g : Group) (text : List ℕ) (h : EntitySoFar) → h.fault ≡ None → (with_read o g text h).fault ≡ o
 fault_of_read (Some fault) g text h e = refl
 fault_of_read None g text h e = e
 
 -- a new group may be the first that can't be read
-pub fault_of_new : (g : Group) (p : Pair) (h : InHand) → h.fault ≡ None → (with_new g p h).fault ≡ value_fault (use_of g) p.value p.line
+pub fault_of_new : (g : Group) (p : Pair) (h : EntitySoFar) → h.fault ≡ None → (with_new g p h).fault ≡ value_fault (use_of g) p.value p.line
 fault_of_new Content p h e = e
 fault_of_new g p h e = fault_of_read (value_fault (use_of g) p.value p.line) g p.value h e

@@ -5,7 +5,8 @@ use Rattle.std.proofs.lemmas.Bool.Decides.{nat_tests}
 use Rattle.micron_decimals.specs.Decimals.{micron_of, IsMicronBeyond}
 use Rattle.micron_decimals.proofs.Nearest.{nearest_is_computed}
 use Rattle.dxf_entities.specs.declared.fault.Fault.TheVariants.{TooFar}
-use Rattle.dxf_entities.specs.Refusals.{unless_near, range}
+use Rattle.nest_base.specs.Range.{range}
+use Rattle.dxf_entities.specs.Refusals.{unless_near}
 
 far : (n : ℤ) (line : ℕ) → range < unsigned_abs n → Some (TooFar line) ≡ unless_near (Some n) line
 far n line h = grind (arith, nat_tests)

@@ -54,10 +54,10 @@ shape_named name =
 abbrev pub shape_of : Entity → Shape
 shape_of e = shape_named (name_of e)
 
--- a part of entities opens with `0 SECTION` that is directly followed by `2 ENTITIES`
-abbrev pub opens_part : Entity → Bool
-opens_part e = is_named (codes "SECTION") e && option_map_or (is_pair 2 (codes "ENTITIES")) (slice_get e.rest 0) false
+-- an ENTITIES section opens with `0 SECTION` that is directly followed by `2 ENTITIES`
+abbrev pub opens_section : Entity → Bool
+opens_section e = is_named (codes "SECTION") e && option_map_or (is_pair 2 (codes "ENTITIES")) (slice_get e.rest 0) false
 
 -- it closes before `0 ENDSEC` and before `0 EOF`
-abbrev pub closes_part : Entity → Bool
-closes_part e = is_named (codes "ENDSEC") e || is_named (codes "EOF") e
+abbrev pub closes_section : Entity → Bool
+closes_section e = is_named (codes "ENDSEC") e || is_named (codes "EOF") e

@@ -3,4 +3,4 @@ pub mod Groups
 pub mod Refusals
 pub mod Values
 pub mod Examples
-pub mod Hand
+pub mod EntityBuilder

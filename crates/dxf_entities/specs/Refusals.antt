@@ -12,16 +12,13 @@ use Rattle.dxf_entities.specs.declared.fault.Fault.{Fault}
 use Rattle.dxf_entities.specs.declared.fault.Fault.TheVariants.{NotANumber as NoNumber, TooFar as FarOff}
 use Rattle.dxf_entities.specs.declared.space.Space.{Space}
 use Rattle.dxf_entities.specs.declared.space.Space.TheVariants.{Paper, Own, Unclear}
+use Rattle.nest_base.specs.Range.{range}
 use Rattle.dxf_entities.specs.declared.error.Kind.{Kind}
 use Rattle.dxf_entities.specs.declared.error.Kind.TheVariants.{Entity as Named, Flags, Bulge, Extrusion}
 use Rattle.dxf_entities.specs.declared.error.DrawingError.{DrawingError}
 use Rattle.dxf_entities.specs.declared.error.DrawingError.TheVariants.{NotANumber, TooFar, Missing, Unsupported}
 use Rattle.dxf_entities.specs.Entities.{Entity, line_of, label_of, first_with, shape_of}
 use Rattle.dxf_entities.specs.Groups.{code, groups_used, groups_needed, Use, Coordinate, Integer, Exactly, Bytes, use_of, Value, Number, Test, value, group_among}
-
--- coordinates lie within plus and minus this many micrometres
-abbrev pub range : ℕ
-range = 100000000
 
 -- where there is no such value
 abbrev pub unless_read : {X : Type 0} → Option X → ℕ → Option Fault

@@ -33,8 +33,8 @@ abbrev pub start_of : Entity → Point
 start_of e = record { x = number_in (value e StartX); y = number_in (value e StartY) }
 
 -- the place of a LINE's second end
-abbrev pub end_of : Entity → Point
-end_of e = record { x = number_in (value e EndX); y = number_in (value e EndY) }
+abbrev pub second_end_of : Entity → Point
+second_end_of e = record { x = number_in (value e EndX); y = number_in (value e EndY) }
 
 -- bit 1 of the flags of a POLYLINE closes it
 abbrev pub closes : ℤ → Bool

@@ -2,10 +2,10 @@
 //!
 //! Each clause is computed from the definitions. The functions do nothing.
 ghost use Rattle.std.specs.Prelude.{◌≡◌, [], ◌∷◌, ◌++◌, None, Some, true, false, codes, negsuc, pos};
-ghost use Rattle.dxf_entities.specs.Entities.{entities_of, label_of, opens_part, closes_part};
+ghost use Rattle.dxf_entities.specs.Entities.{entities_of, label_of, opens_section, closes_section};
 ghost use Rattle.dxf_entities.specs.Examples.{entity, pairs_at, a_line, line_with, polyline_with, vertex_with, a_text};
 ghost use Rattle.dxf_entities.specs.Refusals.{groups_refusal, name_refusal, space_of};
-ghost use Rattle.dxf_entities.specs.Values.{start_of, end_of, is_closed, text_of};
+ghost use Rattle.dxf_entities.specs.Values.{start_of, second_end_of, is_closed, text_of};
 ghost use Rattle.dxf_entities.specs.declared.error.DrawingError.TheVariants.{NotANumber, TooFar, Missing, Unsupported};
 ghost use Rattle.dxf_entities.specs.declared.error.Kind.TheVariants.{Entity as Named, Flags, Bulge, Extrusion};
 ghost use Rattle.dxf_entities.specs.declared.space.Space.TheVariants.{Paper, Own, Unclear};
@@ -14,7 +14,7 @@ ghost use Rattle.dxf_entities.specs.declared.space.Space.TheVariants.{Paper, Own
 pub fn lines()
     ensures accepted { groups_refusal a_line ≡ None }
     ensures start { start_of a_line ≡ record { x = pos 1500; y = negsuc 1999 } }
-    ensures end { end_of a_line ≡ record { x = pos 30000; y = pos 1 } }
+    ensures end { second_end_of a_line ≡ record { x = pos 30000; y = pos 1 } }
     ensures first_of_two { start_of (line_with ((10, codes "5") ∷ [])) ≡ record { x = pos 1000; y = pos 2000 } }
     ensures second_unread { groups_refusal (line_with ((10, codes "x") ∷ [])) ≡ None }
     ensures height_unread { groups_refusal (entity (codes "LINE") ((10, codes "1") ∷ (20, codes "2") ∷ (30, codes "x") ∷ (11, codes "3") ∷ (21, codes "4") ∷ [])) ≡ None }
@@ -73,14 +73,14 @@ pub fn spaces()
     ensures ten_digits { space_of (entity (codes "LINE") ((67, codes "0000000001") ∷ [])) ≡ Unclear 4 }
 {}
 
-/// Where entities begin and end, and which of them open and close a part of entities.
-pub fn parts()
+/// Where entities begin and end, and which of them open and close an ENTITIES section.
+pub fn sections()
     ensures entities { entities_of (pairs_at 2 ((9, codes "$EXTMIN") ∷ (0, codes "A") ∷ (1, codes "b") ∷ (0, codes "C") ∷ (0, codes "EOF") ∷ [])) ≡
         record { head = record { code = pos 0; value = codes "A"; line = 4 }; rest = record { code = pos 1; value = codes "b"; line = 6 } ∷ [] }
         ∷ record { head = record { code = pos 0; value = codes "C"; line = 8 }; rest = [] } ∷ record { head = record { code = pos 0; value = codes "EOF"; line = 10 }; rest = [] } ∷ [] }
-    ensures opens { opens_part (entity (codes "SECTION") ((2, codes " ENTITIES") ∷ [])) ≡ true }
-    ensures other_part { opens_part (entity (codes "SECTION") ((2, codes "BLOCKS") ∷ [])) ≡ false }
-    ensures not_directly { opens_part (entity (codes "SECTION") ((8, codes "0") ∷ (2, codes "ENTITIES") ∷ [])) ≡ false }
-    ensures closes { closes_part (entity (codes "ENDSEC") []) ≡ true }
-    ensures closes_at_the_end { closes_part (entity (codes "EOF") []) ≡ true }
+    ensures opens { opens_section (entity (codes "SECTION") ((2, codes " ENTITIES") ∷ [])) ≡ true }
+    ensures other_section { opens_section (entity (codes "SECTION") ((2, codes "BLOCKS") ∷ [])) ≡ false }
+    ensures not_directly { opens_section (entity (codes "SECTION") ((8, codes "0") ∷ (2, codes "ENTITIES") ∷ [])) ≡ false }
+    ensures closes { closes_section (entity (codes "ENDSEC") []) ≡ true }
+    ensures closes_at_the_end { closes_section (entity (codes "EOF") []) ≡ true }
 {}

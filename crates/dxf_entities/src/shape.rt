@@ -11,7 +11,7 @@ pub enum Shape {
     /// The end of the vertices of a polyline.
     Seqend,
     Text,
-    /// Any other, among them those that open and close parts of the drawing.
+    /// Any other, among them those that open and close sections of the drawing.
     Other,
 }
 

@@ -1,15 +1,15 @@
-use crate::{DrawingError, Hand, Kind, Space};
+use crate::{DrawingError, EntityBuilder, Kind, Space};
 use anyhow::{Result, ensure};
 use nest_base::Point;
 use std::alloc::Global;
 
 /// The entity with this name on line 2 and these groups, each with its value on line 4.
-fn entity(alloc: Global, name: &str, groups: &[(i32, &str)]) -> Result<Hand> {
-    let mut hand = Hand::begin(alloc, name.as_bytes(), 2);
+fn entity(alloc: Global, name: &str, groups: &[(i32, &str)]) -> Result<EntityBuilder> {
+    let mut builder = EntityBuilder::begin(alloc, name.as_bytes(), 2);
     for (code, text) in groups {
-        hand.take(*code, text.as_bytes(), 4)?;
+        builder.take(*code, text.as_bytes(), 4)?;
     }
-    Ok(hand)
+    Ok(builder)
 }
 
 /// A number for each kind of refusal, with a line.
@@ -79,20 +79,20 @@ fn refusals_have_an_order(rt: HostRuntime) -> Result<()> {
         ("ARC", [(10, "x"), (20, "y"), (40, "z")], (0, 0)),
     ];
     for (name, groups, expected) in cases {
-        let hand = entity(rt.alloc(), name, &groups)?;
-        ensure!(number(hand.refusal()) == expected);
+        let builder = entity(rt.alloc(), name, &groups)?;
+        ensure!(number(builder.refusal()) == expected);
     }
     Ok(())
 }
 
 #[test]
-fn a_part_opens_at_once(rt: HostRuntime) -> Result<()> {
+fn a_section_opens_at_once(rt: HostRuntime) -> Result<()> {
     let section = entity(
         rt.alloc(),
         "SECTION",
         &[(2, "ENTITIES "), (67, "1"), (67, "0")],
     )?;
-    ensure!(section.opens_part() && !section.closes_part());
+    ensure!(section.opens_section() && !section.closes_section());
     ensure!(section.space() == Space::Paper);
     Ok(())
 }

@@ -3,8 +3,8 @@ ghost use Rattle.std.specs.Prelude.{◌≡◌, None, Some, IfOk, OnOk, OnErr, is
 ghost use Rattle.std.specs.Result.{result_err};
 ghost use Rattle.micron_decimals.specs.Decimals.{micron_of, integer_of, equals_of};
 ghost use Rattle.dxf_entities.specs.Groups.{use_of};
-ghost use Rattle.dxf_entities.specs.Hand.{a_number, a_test, value_in, with_value, AreWithin};
-ghost use Rattle.nest_base.specs.Range.{IsNear, IsWithin};
+ghost use Rattle.dxf_entities.specs.EntityBuilder.{a_number, a_test, value_in, with_number, AreWithin};
+ghost use Rattle.nest_base.specs.Range.{IsNear, IsWithin, range};
 ghost use Rattle.dxf_entities.specs.Values.{number_in, closes};
 ghost use Rattle.dxf_entities.specs.declared.group.Group.{Group};
 ghost use Rattle.dxf_entities.specs.declared.group.Group.TheVariants.{StartX, StartY, EndX, EndY, Flags};
@@ -43,7 +43,7 @@ pub struct Values {
 fn coordinate(text: &[u8], line: u32) -> Result<i64, Fault>
     ensures fault { result_err result ≡ unless_near (micron_of text.now) line }
     ensures value { IfOk result (λ n. micron_of text.now ≡ Some n) }
-    ensures within { IfOk result (λ n. IsNear 100000000 n) }
+    ensures within { IfOk result (λ n. IsNear range n) }
 {
     match read_micron(text, RANGE) {
         Ok(n) => Ok(n),
@@ -138,7 +138,7 @@ impl Values {
     pub fn read(&mut self, group: Group, text: &[u8], line: u32) -> Result<(), Fault>
         requires { AreWithin self.old }
         ensures fault { result_err result ≡ value_fault (use_of group) text.now line }
-        ensures ok { OnOk result (self.new ≡ with_value group text.now self.old) }
+        ensures ok { OnOk result (self.new ≡ with_number group text.now self.old) }
         ensures err { OnErr result (self.new ≡ self.old) }
         ensures within { AreWithin self.new }
     {
@@ -160,7 +160,7 @@ impl Values {
     /// The place of the first end; a number that wasn't read counts as 0.
     pub fn start(&self) -> Point
         ensures place { result ≡ record { x = number_in (value_in self.now StartX); y = number_in (value_in self.now StartY) } }
-        ensures within { AreWithin self.now → IsWithin 100000000 result }
+        ensures within { AreWithin self.now → IsWithin range result }
     {
         Point {
             x: self.start_x.unwrap_or(0),
@@ -171,7 +171,7 @@ impl Values {
     /// The place of the second end.
     pub fn end(&self) -> Point
         ensures place { result ≡ record { x = number_in (value_in self.now EndX); y = number_in (value_in self.now EndY) } }
-        ensures within { AreWithin self.now → IsWithin 100000000 result }
+        ensures within { AreWithin self.now → IsWithin range result }
     {
         Point {
             x: self.end_x.unwrap_or(0),

@@ -6,7 +6,6 @@ use Rattle.std.specs.Str.Lines.{strip_carriage_return}
 use Rattle.std.proofs.lemmas.Bool.{false_from_ne_true}
 use Rattle.std.proofs.lemmas.List.{length_push}
 use Rattle.nest_base.specs.Lines.{unended}
-use Rattle.nest_base.proofs.Lines.{unended-lf, unended-other}
 use Rattle.dxf_groups.specs.declared.answers.GroupError.TheVariants.{Binary}
 use Rattle.dxf_groups.specs.declared.answers.Stop.TheVariants.{AtFault}
 use Rattle.dxf_groups.specs.Pairs.{binary_head, is_binary, stopped, without_comments}
@@ -14,7 +13,7 @@ use Rattle.dxf_groups.specs.Steps.{line_behind, pair_of}
 use Rattle.dxf_groups.specs.Taking.{reading_so_far, stop_so_far, stop_with, pairs_so_far, newest, completed, is_open}
 use Rattle.dxf_groups.proofs.Head.{common_prefix_len-on, common_prefix_len-off, common_prefix_len-whole, head_front, head_by_last}
 use Rattle.dxf_groups.proofs.Newest.{completed-push, newest-none, newest-same, newest-line}
-use Rattle.dxf_groups.proofs.Standing.{open_text, reading_so_far-binary}
+use Rattle.dxf_groups.proofs.State.{open_text, reading_so_far-binary}
 use Rattle.dxf_groups.proofs.SoFar.{reading_so_far-closed, reading_so_far-lf, reading_so_far-other}
 
 -- how many bytes at the front are those of a binary drawing
@@ -75,9 +74,6 @@ ended_completed bytes h =
     completed-push bytes 10 ∙ ap (λ read. newest (pairs_so_far bytes) (without_comments read.pairs)) (reading_so_far-lf bytes h)
     ∙ newest-line (reading_so_far bytes).pairs (stop_so_far bytes) (strip_carriage_return (unended bytes))
 
-pub ended_unended : (bytes : List ℕ) → unended (bytes ++ 10 ∷ []) ≡ []
-ended_unended bytes = unended-lf bytes
-
 -- any other byte that doesn't complete that front
 pub unended_stop : (bytes : List ℕ) (byte : ℕ) → is_open (stop_so_far bytes) ≡ true → (byte == 10) ≡ false → (GoesOn bytes byte → length bytes ≡ 17 → ⊥) →
     stop_so_far (bytes ++ byte ∷ []) ≡ stop_with (unended bytes ++ byte ∷ []) (stop_so_far bytes)
@@ -88,6 +84,3 @@ pub unended_completed : (bytes : List ℕ) (byte : ℕ) → is_open (stop_so_far
 unended_completed bytes byte h other off =
     completed-push bytes byte ∙ ap (λ read. newest (pairs_so_far bytes) (without_comments read.pairs)) (reading_so_far-other bytes byte h other (not_head bytes byte h off))
     ∙ newest-same (pairs_so_far bytes)
-
-pub unended_longer : (bytes : List ℕ) (byte : ℕ) → (byte == 10) ≡ false → unended (bytes ++ byte ∷ []) ≡ unended bytes ++ byte ∷ []
-unended_longer bytes byte other = unended-other bytes byte other

@@ -10,8 +10,8 @@ use Rattle.dxf_groups.specs.Steps.{line_behind, pair_of, then_line}
 use Rattle.dxf_groups.specs.Taking.{reading_so_far, stop_so_far, pairs_so_far, newest, completed_by_end, is_open}
 use Rattle.dxf_groups.proofs.Newest.{newest-same, newest-line}
 use Rattle.dxf_groups.proofs.Readings.{read_more, reading_of, then_line-closed, then_line-too_long, too_long_at}
-use Rattle.dxf_groups.proofs.Standing.{ended, overlong, reading_so_far-binary, read_pairs-binary, read_pairs-text, Standing, standing, open_text}
-use Rattle.dxf_groups.proofs.Standing.Standing.{binary, closed, too_long, open_line}
+use Rattle.dxf_groups.proofs.State.{ended, overlong, reading_so_far-binary, read_pairs-binary, read_pairs-text, State, state, open_text}
+use Rattle.dxf_groups.proofs.State.State.{binary, closed, too_long, open_line}
 
 pairs_bare : (b : List ℕ) → is_binary b ≡ false → unended b ≡ [] → read_pairs b ≡ ended b
 pairs_bare b text bare = read_pairs-text b text ∙ ap (λ lines. read_from 1 lines) (lines_of-bare b bare)
@@ -32,13 +32,13 @@ pairs_overlong b text free long =
 
 -- the end of the input changes nothing behind `0 EOF` or a refusal
 pub read_pairs-closed : (b : List ℕ) → is_open (stop_so_far b) ≡ false → read_pairs b ≡ reading_so_far b
-read_pairs-closed b h = by_standing (standing b)
+read_pairs-closed b h = by_state (state b)
   where
-    by_standing : Standing b → read_pairs b ≡ reading_so_far b
-    by_standing (binary begun) = read_pairs-binary b begun ∙ sym (reading_so_far-binary b begun)
-    by_standing (closed text shut so_far) = pairs_closed b text shut ∙ sym so_far
-    by_standing (too_long text free long so_far) = pairs_overlong b text free long ∙ sym so_far
-    by_standing (open_line text free short so_far) = absurd (both_ways (is_open (stop_so_far b)) h (ap (λ r. is_open r.stop) so_far ∙ free))
+    by_state : State b → read_pairs b ≡ reading_so_far b
+    by_state (binary begun) = read_pairs-binary b begun ∙ sym (reading_so_far-binary b begun)
+    by_state (closed text shut so_far) = pairs_closed b text shut ∙ sym so_far
+    by_state (too_long text free long so_far) = pairs_overlong b text free long ∙ sym so_far
+    by_state (open_line text free short so_far) = absurd (both_ways (is_open (stop_so_far b)) h (ap (λ r. is_open r.stop) so_far ∙ free))
 
 -- nor where no line is unended
 pub read_pairs-bare : (b : List ℕ) → is_open (stop_so_far b) ≡ true → unended b ≡ [] → read_pairs b ≡ reading_so_far b

@@ -14,7 +14,7 @@ use Rattle.dxf_groups.specs.Taking.{reading_so_far, stop_so_far, pairs_so_far, n
 use Rattle.dxf_groups.specs.Laws.{listed, PairsComeOneByOne, EndGivesTheRest, PairsStay, RefusalStays}
 use Rattle.dxf_groups.proofs.Head.{head_front, head_by_last}
 use Rattle.dxf_groups.proofs.Newest.{newest-listed, without_comments-line, completed-push}
-use Rattle.dxf_groups.proofs.Standing.{reading_so_far-binary, open_text}
+use Rattle.dxf_groups.proofs.State.{reading_so_far-binary, open_text}
 use Rattle.dxf_groups.proofs.SoFar.{reading_so_far-closed, reading_so_far-lf, reading_so_far-other}
 use Rattle.dxf_groups.proofs.Ends.{read_pairs-closed, read_pairs-bare, read_pairs-line}
 
@@ -91,7 +91,8 @@ pairs_that_came_stay b more =
     let last = end_grows (b ++ more) in
     (so_far.0 ++ listed last.0, last.1 ∙ ap (λ p. p ++ listed last.0) so_far.1 ∙ append_assoc (pairs_so_far b) so_far.0 (listed last.0))
 
-closed_stays : (more b : List ℕ) → is_open (stop_so_far b) ≡ false → reading_so_far (b ++ more) ≡ reading_so_far b
+-- behind `0 EOF` or a refusal nothing changes, whatever follows
+pub closed_stays : (more b : List ℕ) → is_open (stop_so_far b) ≡ false → reading_so_far (b ++ more) ≡ reading_so_far b
 closed_stays [] b h = ap reading_so_far (append-nil b)
 closed_stays (c ∷ more) b h =
     let one = reading_so_far-closed b c h in

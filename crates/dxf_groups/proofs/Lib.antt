@@ -1,10 +1,11 @@
 pub mod Head
 pub mod Readings
 pub mod Newest
-pub mod Standing
+pub mod State
 pub mod SoFar
 pub mod Bytes
 pub mod Ends
 pub mod Readers
 pub mod Growth
 pub mod Refusals
+pub mod ToldForGood

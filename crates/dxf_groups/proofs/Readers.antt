@@ -6,6 +6,7 @@ use Rattle.std.proofs.lemmas.Grind.{common_steps}
 use Rattle.std.proofs.lemmas.Bool.{true≢false}
 use Rattle.std.proofs.lemmas.List.{length-append}
 use Rattle.nest_base.specs.Lines.{unended}
+use Rattle.nest_base.proofs.Lines.{unended-lf, unended-other}
 use Rattle.dxf_groups.specs.declared.answers.Found.{Found}
 use Rattle.dxf_groups.specs.declared.answers.Stop.{Stop}
 use Rattle.dxf_groups.specs.declared.answers.Stop.TheVariants.{AtEof, AtFault, BeforeCode, BeforeValue}
@@ -14,7 +15,7 @@ use Rattle.dxf_groups.specs.Pairs.{Pair, Reading, binary_head, stopped, read_pai
 use Rattle.dxf_groups.specs.Steps.{IsReadyAt, goes_on, line_behind, pair_of, last_reading, stop_of_end}
 use Rattle.dxf_groups.specs.Taking.{Progress, GroupsAt, stop_so_far, stop_with, completed, value_of, found_at, found_at_stop, pair_or, is_open, EndedAt, gave_pair, at_the_last, found_at_end, found_last, completed_by_end}
 use Rattle.dxf_groups.proofs.Ends.{closed_end, closed_end_completed, bare_end, bare_end_completed, line_end, line_end_completed}
-use Rattle.dxf_groups.proofs.Bytes.{GoesOn, matched_of, matched_on, matched_off, head_stop, head_completed, closed_stop, closed_completed, ended_stop, ended_completed, ended_unended, unended_stop, unended_completed, unended_longer}
+use Rattle.dxf_groups.proofs.Bytes.{GoesOn, matched_of, matched_on, matched_off, head_stop, head_completed, closed_stop, closed_completed, ended_stop, ended_completed, unended_stop, unended_completed}
 
 -- what the last byte tells, by where the bytes stop and the pair that they complete
 found_is : (b : List ℕ) (s : Stop) (p : Option Pair) → s ≡ stop_so_far b → p ≡ completed b → pair_or p (found_at_stop s) ≡ found_at b
@@ -106,7 +107,7 @@ ended_at g n b at way taken stop value answer matched line =
       stop = stop ∙ ap (λ (r : Reading). r.stop) read ∙ sym (ended_stop b is_open_at);
       value = value ∙ ap (λ r. value_of (pair_of r)) read ∙ ap value_of (sym (ended_completed b is_open_at));
       answer = answer;
-      while_open = λ o. record { matched = matched; line = line ∙ sym (ended_unended b) };
+      while_open = λ o. record { matched = matched; line = line ∙ sym (unended-lf b) };
     }
 
 pub ended_found : (g n : Progress) (b : List ℕ) → IsReadyAt g b → IsTrue (is_open g.stop) → n.stop ≡ (line_behind g.stop (strip_carriage_return g.line)).stop →
@@ -132,7 +133,7 @@ longer_at g n b c at way other off taken stop value answer matched line =
       stop = stop ∙ longer_stop g b c at ∙ sym (unended_stop b c is_open_at other not_head);
       value = value ∙ ap value_of (sym (unended_completed b c is_open_at other not_head));
       answer = answer;
-      while_open = λ o. record { matched = matched; line = line o ∙ ap (λ l. l ++ c ∷ []) at.line ∙ sym (unended_longer b c other) };
+      while_open = λ o. record { matched = matched; line = line o ∙ ap (λ l. l ++ c ∷ []) at.line ∙ sym (unended-other b c other) };
     }
 
 pub longer_found : (g n : Progress) (b : List ℕ) (c : ℕ) → IsReadyAt g b → IsTrue (is_open g.stop) → (c == 10) ≡ false → (goes_on g c ≡ true → g.matched + 1 ≡ 18 → ⊥) →

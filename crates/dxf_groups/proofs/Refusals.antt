@@ -16,7 +16,7 @@ use Rattle.dxf_groups.specs.Taking.{reading_so_far, stop_so_far, with_unended, i
 use Rattle.dxf_groups.specs.Laws.{RefusalComesAtOnce}
 use Rattle.dxf_groups.proofs.Head.{head_by_last}
 use Rattle.dxf_groups.proofs.Readings.{too_long_at}
-use Rattle.dxf_groups.proofs.Standing.{ended, reading_so_far-text, stop_with-overlong, open_text}
+use Rattle.dxf_groups.proofs.State.{ended, reading_so_far-text, stop_with-overlong, open_text}
 use Rattle.dxf_groups.proofs.SoFar.{reading_so_far-lf}
 use Rattle.dxf_groups.proofs.Ends.{read_pairs-closed, read_pairs-bare}
 use Rattle.dxf_groups.proofs.Growth.{group_refusal_of-closed}

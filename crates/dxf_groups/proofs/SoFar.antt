@@ -11,8 +11,8 @@ use Rattle.dxf_groups.specs.Steps.{then_line}
 use Rattle.dxf_groups.specs.Taking.{reading_so_far, stop_so_far, with_unended, is_open}
 use Rattle.dxf_groups.proofs.Head.{is_binary-append, head_by_last}
 use Rattle.dxf_groups.proofs.Readings.{read_more, reading_of, then_line-closed, then_line-too_long, too_long_at}
-use Rattle.dxf_groups.proofs.Standing.{ended, overlong, reading_so_far-binary, reading_so_far-text, stop_with-closed, stop_with-short, stop_with-overlong, Standing, standing, open_text}
-use Rattle.dxf_groups.proofs.Standing.Standing.{binary, closed, too_long, open_line}
+use Rattle.dxf_groups.proofs.State.{ended, overlong, reading_so_far-binary, reading_so_far-text, stop_with-closed, stop_with-short, stop_with-overlong, State, state, open_text}
+use Rattle.dxf_groups.proofs.State.State.{binary, closed, too_long, open_line}
 
 -- before the front of a binary drawing is complete, the text stands open
 front_is_open : (b : List ℕ) (c : ℕ) → is_binary b ≡ false → is_binary (b ++ c ∷ []) ≡ true → (is_open (ended b).stop ≡ true) × (overlong b ≡ false)
@@ -57,13 +57,13 @@ byte_overlong b c text free long = reading_so_far-text (b ++ c ∷ []) (text_sta
 
 -- behind `0 EOF` or a refusal a byte changes nothing
 pub reading_so_far-closed : (b : List ℕ) (c : ℕ) → is_open (stop_so_far b) ≡ false → reading_so_far (b ++ c ∷ []) ≡ reading_so_far b
-reading_so_far-closed b c h = by_standing (standing b)
+reading_so_far-closed b c h = by_state (state b)
   where
-    by_standing : Standing b → reading_so_far (b ++ c ∷ []) ≡ reading_so_far b
-    by_standing (binary begun) = reading_so_far-binary (b ++ c ∷ []) (is_binary-append b (c ∷ []) begun) ∙ sym (reading_so_far-binary b begun)
-    by_standing (closed text shut so_far) = byte_closed b c text shut ∙ sym so_far
-    by_standing (too_long text free long so_far) = byte_overlong b c text free long ∙ sym so_far
-    by_standing (open_line text free short so_far) = absurd (both_ways (is_open (stop_so_far b)) h (ap (λ r. is_open r.stop) so_far ∙ free))
+    by_state : State b → reading_so_far (b ++ c ∷ []) ≡ reading_so_far b
+    by_state (binary begun) = reading_so_far-binary (b ++ c ∷ []) (is_binary-append b (c ∷ []) begun) ∙ sym (reading_so_far-binary b begun)
+    by_state (closed text shut so_far) = byte_closed b c text shut ∙ sym so_far
+    by_state (too_long text free long so_far) = byte_overlong b c text free long ∙ sym so_far
+    by_state (open_line text free short so_far) = absurd (both_ways (is_open (stop_so_far b)) h (ap (λ r. is_open r.stop) so_far ∙ free))
 
 -- an LF gives the line that it ends
 pub reading_so_far-lf : (b : List ℕ) → is_open (stop_so_far b) ≡ true → reading_so_far (b ++ 10 ∷ []) ≡ then_line (reading_so_far b) (strip_carriage_return (unended b))

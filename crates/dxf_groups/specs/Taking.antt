@@ -3,7 +3,6 @@ use Rattle.std.specs.Prelude.{◌≡◌, ℕ, ◌-◌, Bool, true, false, IsTrue
 use Rattle.std.specs.List.{common_prefix_len, last_or}
 use Rattle.std.specs.Str.Lines.{strip_carriage_return}
 use Rattle.nest_base.specs.Lines.{ended_lines, unended}
-use Rattle.dxf_groups.specs.declared.answers.GroupError.{GroupError}
 use Rattle.dxf_groups.specs.declared.answers.GroupError.TheVariants.{Binary, LineTooLong}
 use Rattle.dxf_groups.specs.declared.answers.Found.{Found}
 use Rattle.dxf_groups.specs.declared.answers.Found.TheVariants.{More, Pair as GivesPair, Done, Refused}
@@ -49,11 +48,6 @@ completed bytes = newest (pairs_so_far (take (length bytes - 1) bytes)) (pairs_s
 -- the pair that the end of the input completes
 abbrev pub completed_by_end : List ℕ → Option Pair
 completed_by_end bytes = newest (pairs_so_far bytes) (pairs_of bytes)
-
--- refused, where there is a refusal
-abbrev pub unless_refused : Option GroupError → Found → Found
-unless_refused (Some e) found = Refused
-unless_refused None found = found
 
 -- a pair, where there is one
 abbrev pub pair_or : Option Pair → Found → Found

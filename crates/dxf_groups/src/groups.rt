@@ -1,6 +1,7 @@
 //! The reader of pairs that takes one byte after the other.
 ghost use Rattle.std.specs.Prelude.{◌≡◌, ◌<◌, ◌≤◌, ◌+◌, ◌^◌, ◌&&◌, nat_eq, ℕ, List, [], ◌∷◌, ◌++◌, length, Some, None, IfOk, IsTrue, if◌then◌else◌, is_some};
 ghost use Rattle.std.specs.Str.Lines.{strip_carriage_return};
+ghost use Rattle.nest_base.specs.Limits.{most_bytes};
 ghost use Rattle.dxf_groups.specs.Pairs.{fault_of, at_the_end};
 ghost use Rattle.dxf_groups.specs.Steps.{line_behind, pair_of, number_of, IsReadyAt, goes_on, last_reading, stop_of_end, gives_pair};
 ghost use Rattle.dxf_groups.specs.Taking.{GroupsAt, EndedAt, found_at, found_at_end, found_last, found_at_stop, pair_or, value_of, is_open, stop_with};
@@ -32,6 +33,7 @@ pub struct Groups {
 
 impl Model for Groups {
     ghost use Rattle.std.specs.Prelude.{◌≤◌, ◌^◌, ◌+◌, Some, None, [], length, if◌then◌else◌};
+    ghost use Rattle.nest_base.specs.Limits.{most_bytes};
     ghost use Rattle.dxf_groups.specs.Taking.{Progress};
     ghost use Rattle.dxf_groups.specs.Steps.{number_of};
 
@@ -39,7 +41,7 @@ impl Model for Groups {
 
     ghost view = { λ g. record { taken = g.taken; stop = g.stop; value = if g.has_value then Some g.line else None; answer = g.answer; matched = g.matched; line = if g.has_value then [] else g.line } };
 
-    ghost invariant = { λ g. (g.taken ≤ 2 ^ 26) × (length (if g.has_value then [] else g.line) + number_of g.stop ≤ g.taken + 1) × (g.matched ≤ g.taken) };
+    ghost invariant = { λ g. (g.taken ≤ most_bytes) × (length (if g.has_value then [] else g.line) + number_of g.stop ≤ g.taken + 1) × (g.matched ≤ g.taken) };
 }
 
 impl Groups {
@@ -61,7 +63,7 @@ impl Groups {
 
     /// Takes the next byte, and tells what it completed.
     pub fn take(&mut self, byte: u8) -> Found
-        requires few { self.old.taken < 2 ^ 26 }
+        requires few { self.old.taken < most_bytes }
         requires not_ended { self.old.answer ≡ None }
         ensures at { (bytes : List ℕ) → GroupsAt self.old bytes → GroupsAt self.new (bytes ++ byte ∷ []) }
         ensures found { (bytes : List ℕ) → GroupsAt self.old bytes → result ≡ found_at (bytes ++ byte ∷ []) }

@@ -1,5 +1,5 @@
 //! What holds of the pairs of any bytes: functions that do nothing and whose contracts are the laws.
-ghost use Rattle.dxf_groups.specs.Laws.{PairsComeOneByOne, EndGivesTheRest, PairsStay, RefusalStays, RefusalComesAtOnce, CuttingIsFree};
+ghost use Rattle.dxf_groups.specs.Laws.{PairsComeOneByOne, EndGivesTheRest, PairsStay, RefusalStays, RefusalComesAtOnce, TakeStaysRefused, EndStaysRefused, CuttingIsFree};
 
 /// The pairs that bytes complete, one after the other, are those of all these bytes.
 pub fn pairs_come_one_by_one()
@@ -24,6 +24,13 @@ pub fn refusal_stays()
 /// A refusal has come as soon as it stands whatever follows.
 pub fn refusal_comes_at_once()
     ensures { RefusalComesAtOnce }
+{}
+
+/// Once `take` has answered `Refused`, every later `take` and every `end` answers it, for the same reason; once `end` has answered
+/// it, so does every further `end`.
+pub fn refusal_is_told_for_good()
+    ensures take { TakeStaysRefused }
+    ensures end { EndStaysRefused }
 {}
 
 /// What a reader knows depends on the bytes, and not on how they were cut into pieces.

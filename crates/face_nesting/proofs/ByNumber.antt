@@ -1,7 +1,7 @@
 -- What holds of the numbers of the things in a list, said of the things.
 use Rattle.std.proofs.Common.{List, map}
 use Rattle.std.specs.Prelude.{All, AllPairs}
-use Rattle.half_edges.proofs.Items.{read-map, All-read, All-from_reads, AllPairs-reads, AllPairs-from_reads}
+use Rattle.nest_base.proofs.ListReads.{read-map, All-read, All-from_reads, AllPairs-reads, AllPairs-from_reads}
 
 pub All-from_map : {X Y : Type 0} (P : Y → Type 0) (f : X → Y) (xs : List X) → All P (map f xs) → All (λ x. P (f x)) xs
 All-from_map P f xs all = All-from_reads (λ x. P (f x)) xs (λ k x at. All-read P (map f xs) k (f x) all (read-map f xs k x at))

@@ -1,25 +1,25 @@
 pub mod Prefixes
 mod MarkSides
 mod SeenSoFar
-mod RingSteps
-mod RingLists
-mod RingTracing
-mod RingFound
-mod RingWrites
-mod RingRounds
-mod RingFaces
+mod CycleSteps
+mod CycleLists
+mod CycleTracing
+mod CycleFound
+mod CycleWrites
+mod CycleRounds
+mod CycleFaces
 mod FaceNumbers
 pub mod NumbersOf
 pub mod Zips
 mod ByNumber
-mod RingMembers
+mod CycleMembers
 pub mod KnownGraph
-mod MarkSideParts
-mod FoundRings
+mod MarkSideComponents
+mod FoundCycles
 mod Anchors
 mod SameFaces
-mod RingSlices
-mod OuterRings
+mod CycleSlices
+mod OuterCycles
 mod Parents
 mod NestingLists
 mod FaceCounts

@@ -9,40 +9,40 @@ use Rattle.nest_base.specs.Order.{IsBefore}
 use Rattle.nest_base.specs.Turn.{IsInsideAngle, west}
 use Rattle.nest_base.specs.Angles.{IsDirection, IsBeforeByAngle, within, before_west, past_west}
 use Rattle.nest_base.proofs.Angles.{inside-between, angle_cmp-less}
-use Rattle.plate_sides.specs.Sides.{IsHalfEdge, Leaves, IsNextCw}
+use Rattle.plate_sides.specs.HalfEdges.{IsHalfEdge, Leaves, IsNextCw}
 use Rattle.plate_sides.specs.Components.{IsMark, AreMarks}
 use Rattle.plate_sides.specs.Links.{IsMarkSide}
 use Rattle.half_edges.specs.Numbers.{IsSide}
-use Rattle.half_edges.specs.Rings.{IsBeforeRound, IsRing}
+use Rattle.half_edges.specs.Rotations.{IsBeforeRound, IsRotation}
 use Rattle.half_edges.proofs.OneWay.{heading_is_direction}
 use Rattle.half_edges.proofs.Rounds.{IsBeforeFromWest-asym}
-use Rattle.half_edges.proofs.Items.{one_read, Contains-from_read, read_from_Contains, AllPairs-reads}
+use Rattle.nest_base.proofs.ListReads.{one_read, Contains-from_read, read_from_Contains, AllPairs-reads}
 use Rattle.face_nesting.specs.Sights.{IsMarkSideOf}
 
 -- no direction comes before west
 not_before_west : (a : Point) → IsDirection a → IsBeforeByAngle a west → ⊥
 not_before_west a is_a less = ((angle_cmp-less a west is_a (λ same. omega (arith, ints, same.0))).0 less).0 (refl, record { lt = tt })
 
-module _ (edges : List Edge) (ordered : All (λ (e : Edge). IsBefore e.low e.high) edges) (v : Point) (ring : List HalfEdge) (is_ring : IsRing edges v ring)
-    (first : HalfEdge) (at_first : slice_get ring 0 ≡ Some first) where
+module _ (edges : List Edge) (ordered : All (λ (e : Edge). IsBefore e.low e.high) edges) (v : Point) (cycle : List HalfEdge) (is_cycle : IsRotation edges v cycle)
+    (first : HalfEdge) (at_first : slice_get cycle 0 ≡ Some first) where
   direction_of : (h : HalfEdge) → IsHalfEdge edges h → IsDirection (heading h)
   direction_of h is = heading_is_direction edges h ordered is
 
   first_leaves : Leaves edges v first
-  first_leaves = (is_ring.are_all first).0 (Contains-from_read ring 0 first at_first)
+  first_leaves = (is_cycle.are_all first).0 (Contains-from_read cycle 0 first at_first)
 
   -- nothing comes before the first
   none_before_first : (m : HalfEdge) → Leaves edges v m → IsBeforeByAngle (heading m) (heading first) → ⊥
   none_before_first m leaves less =
       let before = (angle_cmp-less (heading m) (heading first) (direction_of m leaves.0) (direction_of first first_leaves.0)).0 less in
-      let stands = read_from_Contains ring m ((is_ring.are_all m).1 leaves) in
+      let stands = read_from_Contains cycle m ((is_cycle.are_all m).1 leaves) in
       at_place stands.0 stands.1 before
     where
-      at_place : (k : ℕ) → slice_get ring k ≡ Some m → IsBeforeRound m first → ⊥
+      at_place : (k : ℕ) → slice_get cycle k ≡ Some m → IsBeforeRound m first → ⊥
       at_place zero at before =
-          let loop = subst (λ (h : HalfEdge). IsBeforeRound h first) (one_read ring 0 m first at at_first) before in
+          let loop = subst (λ (h : HalfEdge). IsBeforeRound h first) (one_read cycle 0 m first at at_first) before in
           IsBeforeFromWest-asym _ _ loop loop
-      at_place (suc k) at before = IsBeforeFromWest-asym _ _ before (AllPairs-reads IsBeforeRound ring 0 (suc k) first m is_ring.in_order (omega arith) at_first at)
+      at_place (suc k) at before = IsBeforeFromWest-asym _ _ before (AllPairs-reads IsBeforeRound cycle 0 (suc k) first m is_cycle.in_order (omega arith) at_first at)
 
   -- clockwise before the first comes the last: none is met between it and west
   pub last_before_west : (m : HalfEdge) → IsNextCw edges first m → (d : HalfEdge) → Leaves edges m.from d → IsInsideAngle (heading m) (heading d) west → ⊥
@@ -64,8 +64,8 @@ module _ (edges : List Edge) (ordered : All (λ (e : Edge). IsBefore e.low e.hig
 
 -- so its number is that of the mark side
 pub mark_side_found : (edges : List Edge) → All (λ (e : Edge). IsBefore e.low e.high) edges → {marks : List Point} → AreMarks edges marks →
-    (c : ℕ) (mark : Point) → slice_get marks c ≡ Some mark → (ring : List HalfEdge) → IsRing edges mark ring →
-    (first : HalfEdge) → slice_get ring 0 ≡ Some first → (s : ℕ) → (m : HalfEdge) × IsSide edges s m × IsNextCw edges first m → IsMarkSideOf edges mark s
-mark_side_found edges ordered {marks = marks} are_marks c mark at_c ring is_ring first at_first s (m, is, next) =
-    let side = is_mark_side edges ordered mark ring is_ring first at_first ((are_marks.are_all mark).0 (Contains-from_read marks c mark at_c)) m next in
+    (c : ℕ) (mark : Point) → slice_get marks c ≡ Some mark → (cycle : List HalfEdge) → IsRotation edges mark cycle →
+    (first : HalfEdge) → slice_get cycle 0 ≡ Some first → (s : ℕ) → (m : HalfEdge) × IsSide edges s m × IsNextCw edges first m → IsMarkSideOf edges mark s
+mark_side_found edges ordered {marks = marks} are_marks c mark at_c cycle is_cycle first at_first s (m, is, next) =
+    let side = is_mark_side edges ordered mark cycle is_cycle first at_first ((are_marks.are_all mark).0 (Contains-from_read marks c mark at_c)) m next in
     (m, is, side.0, side.1)

@@ -4,16 +4,16 @@ use Rattle.std.specs.Prelude.{Some, None, option_map, slice_get}
 use Rattle.std.proofs.lemmas.List.{length-map}
 use Rattle.std.proofs.lemmas.Option.{none-some, same_Some}
 use Rattle.nest_base.specs.declared.places.Point.{Point}
-use Rattle.half_edges.specs.Graph.{Graph, origin_of, part_of}
-use Rattle.half_edges.proofs.Items.{one_read, read-map}
+use Rattle.half_edges.specs.Graph.{Graph, origin_of, component_of}
+use Rattle.nest_base.proofs.ListReads.{one_read, read-map}
 use Rattle.face_nesting.specs.Sights.{IsSight}
 use Rattle.plate_sides.specs.Nesting.{IsParentOf, AreParents}
-use Rattle.face_nesting.proofs.FoundRings.{AreFound, as_many_sights, sight_of, seen_in_parent}
+use Rattle.face_nesting.proofs.FoundCycles.{AreFound, as_many_sights, sight_of, seen_in_parent}
 
-module _ {graph : Graph} {mark_sides ring_of sides starts : List ℕ} {sights : List (Option ℕ)} (found : AreFound graph mark_sides ring_of sides starts sights) where
+module _ {graph : Graph} {mark_sides cycle_of sides starts : List ℕ} {sights : List (Option ℕ)} (found : AreFound graph mark_sides cycle_of sides starts sights) where
   -- the component of a half-edge
   abbrev component : ℕ → ℕ
-  component s = part_of graph (origin_of graph s)
+  component s = component_of graph (origin_of graph s)
 
   parent_of : (c : ℕ) (mark : Point) → slice_get graph.marks c ≡ Some mark → (it : Option ℕ) → IsSight graph.edges mark it →
       IsParentOf graph.edges graph.marks c mark (option_map component it)

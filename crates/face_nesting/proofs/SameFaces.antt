@@ -8,22 +8,22 @@ use Rattle.plate_sides.specs.Links.{Node, Outer, At, IsLinked, IsAlong, IsMarkSi
 use Rattle.plate_sides.specs.Reach.{SameFace}
 use Rattle.plate_nesting.proofs.Nearest.{one_is_seen}
 use Rattle.half_edges.specs.Numbers.{half_edges_of, IsSide}
-use Rattle.half_edges.specs.Graph.{Graph, rotation_of}
-use Rattle.half_edges.specs.Rotation.{along as along_in}
+use Rattle.half_edges.specs.Graph.{Graph, rotations_of}
+use Rattle.rotation_systems.specs.RotationSystem.{along as along_in}
 use Rattle.half_edges.proofs.Numbers.{side_from_half_edge}
 use Rattle.face_nesting.specs.Sights.{IsSight}
-use Rattle.face_nesting.specs.Numbering.{face_of_ring, face_seen, outer_face, AreOuterFaces}
+use Rattle.face_nesting.specs.Numbering.{face_of_cycle, face_seen, outer_face, AreOuterFaces}
 use Rattle.face_nesting.specs.Nesting.{AreFaces}
-use Rattle.face_nesting.proofs.RingMembers.{number_of, along_within}
+use Rattle.face_nesting.proofs.CycleMembers.{number_of, along_within}
 use Rattle.face_nesting.proofs.KnownGraph.{one_number, along_number}
-use Rattle.face_nesting.proofs.MarkSideParts.{mark_side_number}
-use Rattle.face_nesting.proofs.FoundRings.{AreFound, mark_side_numbered, sight_of}
+use Rattle.face_nesting.proofs.MarkSideComponents.{mark_side_number}
+use Rattle.face_nesting.proofs.FoundCycles.{AreFound, mark_side_numbered, sight_of}
 use Rattle.face_nesting.proofs.Anchors.{component_face, side_face, IsAnchor, one_anchor, anchored}
 
-module _ {graph : Graph} {mark_sides ring_of sides starts : List ℕ} {sights : List (Option ℕ)} (found : AreFound graph mark_sides ring_of sides starts sights)
-    (components : ℕ) (outer : List ℕ) (as_many : components ≡ length graph.marks) (are_outer : AreOuterFaces ring_of sights components outer) where
+module _ {graph : Graph} {mark_sides cycle_of sides starts : List ℕ} {sights : List (Option ℕ)} (found : AreFound graph mark_sides cycle_of sides starts sights)
+    (components : ℕ) (outer : List ℕ) (as_many : components ≡ length graph.marks) (are_outer : AreOuterFaces cycle_of sights components outer) where
   abbrev faces : List ℕ
-  faces = map (face_of_ring components outer) ring_of
+  faces = map (face_of_cycle components outer) cycle_of
 
   -- the face number of a node
   abbrev HasFace : Node → ℕ → Type 0
@@ -37,13 +37,13 @@ module _ {graph : Graph} {mark_sides ring_of sides starts : List ℕ} {sights : 
   along_face : (g h : HalfEdge) → IsAlong graph.edges g h → (f : ℕ) × HasFace (At g) f × HasFace (At h) f
   along_face g h link =
       let s = side_from_half_edge graph.edges g link.0 in
-      let r = number_of found.are_rings s.0 (slice_get_within (half_edges_of graph.edges) s.0 g s.1) in (
-        face_of_ring components outer r.0,
+      let r = number_of found.are_cycles s.0 (slice_get_within (half_edges_of graph.edges) s.0 g s.1) in (
+        face_of_cycle components outer r.0,
         (s.0, s.1, side_face found components outer as_many are_outer s.0 r.0 r.1),
         (
-          along_in (rotation_of graph) s.0,
+          along_in (rotations_of graph) s.0,
           along_number found.known s.0 g h s.1 link,
-          side_face found components outer as_many are_outer (along_in (rotation_of graph) s.0) r.0 (along_within found.are_rings s.0 r.0 r.1),
+          side_face found components outer as_many are_outer (along_in (rotations_of graph) s.0) r.0 (along_within found.are_cycles s.0 r.0 r.1),
         ),
       )
 
@@ -57,10 +57,10 @@ module _ {graph : Graph} {mark_sides ring_of sides starts : List ℕ} {sights : 
       seen : (it : Option ℕ) × (slice_get sights side.0 ≡ Some it) × IsSight graph.edges m.from it
       seen = sight_of found side.0 m.from side.2
 
-      own : (it : Option ℕ) → slice_get sights side.0 ≡ Some it → HasFace (At m) (face_seen components ring_of outer it)
+      own : (it : Option ℕ) → slice_get sights side.0 ≡ Some it → HasFace (At m) (face_seen components cycle_of outer it)
       own it at =
-          let ring = mark_side_numbered found side.0 side.1 side.3 in
-          (side.1, side.4, side_face found components outer as_many are_outer side.1 side.0 ring ∙ component_face found components outer as_many are_outer side.0 it at)
+          let cycle = mark_side_numbered found side.0 side.1 side.3 in
+          (side.1, side.4, side_face found components outer as_many are_outer side.1 side.0 cycle ∙ component_face found components outer as_many are_outer side.0 it at)
 
       of : (it : Option ℕ) → slice_get sights side.0 ≡ Some it → IsSight graph.edges m.from it → (f : ℕ) × HasFace (At m) f × HasFace n f
       of None at none =
@@ -68,10 +68,10 @@ module _ {graph : Graph} {mark_sides ring_of sides starts : List ℕ} {sights : 
           (outer_face, own None at, subst (λ k. HasFace k outer_face) same refl)
       of (Some u) at (d, is_d, is_seen) =
           let same = one_is_seen graph.edges found.known.apart m.from (At d) n is_seen sees in
-          let q = number_of found.are_rings u (slice_get_within (half_edges_of graph.edges) u d is_d) in
-          let number : slice_index ring_of u ≡ q.0 = get_or_from_slice_get ring_of u q.0 0 q.1 in
-          let face = side_face found components outer as_many are_outer u q.0 q.1 ∙ ap (face_of_ring components outer) (sym number) in
-          (face_seen components ring_of outer (Some u), own (Some u) at, subst (λ k. HasFace k (face_seen components ring_of outer (Some u))) same (u, is_d, face))
+          let q = number_of found.are_cycles u (slice_get_within (half_edges_of graph.edges) u d is_d) in
+          let number : slice_index cycle_of u ≡ q.0 = get_or_from_slice_get cycle_of u q.0 0 q.1 in
+          let face = side_face found components outer as_many are_outer u q.0 q.1 ∙ ap (face_of_cycle components outer) (sym number) in
+          (face_seen components cycle_of outer (Some u), own (Some u) at, subst (λ k. HasFace k (face_seen components cycle_of outer (Some u))) same (u, is_d, face))
 
   link_face : (a b : Node) → IsLinked graph.edges a b → (f : ℕ) × HasFace a f × HasFace b f
   link_face _ _ (along {s} {t} link) = along_face s t link
@@ -89,7 +89,7 @@ module _ {graph : Graph} {mark_sides ring_of sides starts : List ℕ} {sights : 
   number_face : (s : ℕ) (g : HalfEdge) (f : ℕ) → IsSide graph.edges s g → HasFace (At g) f → slice_index faces s ≡ f
   number_face s g f is has = one_face (At g) (slice_index faces s) f (s, is, refl) has
 
-  pub are_faces : AreFaces graph.edges (map (face_of_ring components outer) ring_of)
+  pub are_faces : AreFaces graph.edges (map (face_of_cycle components outer) cycle_of)
   are_faces = record {
     joined = λ s t g h is_g is_h. (
       λ same.

@@ -1,5 +1,5 @@
 -- What is seen among the first of some edges, and the number of what is seen among all.
-use Rattle.std.proofs.Common.{arith, ◌≡◌, ◌⊎◌, inl, inr, ℕ, ◌+◌, ◌*◌, ◌<◌, ◌<ℤ◌, List, [], length, take, get_or, Option, None, Some, slice_get, sym, subst, ◌∙◌}
+use Rattle.std.proofs.Common.{arith, ◌≡◌, ◌⊎◌, inl, inr, ℕ, ◌+◌, ◌*◌, ◌<◌, ◌<ℤ◌, List, length, take, get_or, Option, None, Some, slice_get, sym, subst, ◌∙◌}
 use Rattle.std.specs.Prelude.{All, Contains, IfSome, IfNone}
 use Rattle.std.proofs.lemmas.Int.{ints}
 use Rattle.std.proofs.lemmas.List.Elements.{All-contains, Contains-push_cases}
@@ -10,14 +10,13 @@ use Rattle.nest_base.specs.declared.numbers.Side.{Side}
 use Rattle.nest_base.specs.Plane.{HalfEdge}
 use Rattle.nest_base.specs.Range.{IsWithin, IsEdgeWithin}
 use Rattle.nest_base.specs.Sight.{IsMet, IsNearer, GoesDown}
-use Rattle.nest_base.proofs.Lists.{Contains-none}
-use Rattle.plate_sides.specs.Sides.{IsHalfEdge, IsHalfEdgeOf, IsVertex}
+use Rattle.plate_sides.specs.HalfEdges.{IsHalfEdge, IsHalfEdgeOf, IsVertex}
 use Rattle.plate_sides.specs.Links.{IsSeen, SeesNone}
 use Rattle.plate_sides.proofs.HalfEdges.{from_is_end}
 use Rattle.plate_nesting.proofs.Nearer.{nearer_then}
-use Rattle.plate_nesting.proofs.Seen.{met_falls}
+use Rattle.plate_nesting.proofs.Seen.{met_falls, not_nearer_itself}
 use Rattle.half_edges.specs.Numbers.{IsSide}
-use Rattle.half_edges.proofs.Items.{Contains-from_read}
+use Rattle.nest_base.proofs.ListReads.{Contains-from_read}
 use Rattle.half_edges.proofs.Numbers.{side_low, side_high}
 use Rattle.face_nesting.specs.Numbering.{number_seen}
 use Rattle.face_nesting.specs.Sights.{IsSight}
@@ -37,9 +36,6 @@ abbrev pub IsNearestOf : List Edge → List Edge → Point → Option ℕ → Ty
 IsNearestOf edges so_far p None = SeesNone so_far p
 IsNearestOf edges so_far p (Some n) = IsNearestAt edges so_far p n
 
-pub nothing_met_yet : (p : Point) → SeesNone [] p
-nothing_met_yet p d is met = absurd (Contains-none is.0 is.1)
-
 -- the half-edge of a met edge goes down
 met_goes_down : (e : Edge) (p : Point) (f : HalfEdge) → IsHalfEdgeOf e f → IsMet p f → GoesDown e f
 met_goes_down e p f is met = record { one_of_two = is; down = omega (arith, ints, met.lower_end, met.upper_end) }
@@ -54,10 +50,6 @@ one_goes_down e f g is also = of is.one_of_two also.one_of_two is.down also.down
     of (inr a) (inr b) p q = a ∙ sym b
     of (inl a) (inr b) p q = absurd (omega (arith, ints, rw a at p, rw b at q))
     of (inr a) (inl b) p q = absurd (omega (arith, ints, rw a at p, rw b at q))
-
-not_nearer_itself : (p : Point) (d : HalfEdge) → IsNearer p d d → ⊥
-not_nearer_itself p d (inl h) = omega (arith, ints, h)
-not_nearer_itself p d (inr h) = omega (arith, ints, h.1)
 
 -- one edge more
 module _ (edges : List Edge) (k : ℕ) (e : Edge) (at : slice_get edges k ≡ Some e) (p : Point) where

@@ -1,4 +1,4 @@
-pub mod Rings
+pub mod Cycles
 pub mod Sights
 pub mod Numbering
 pub mod Nesting

@@ -4,9 +4,10 @@ use Rattle.std.specs.List.{AllZip}
 use Rattle.nest_base.specs.declared.places.Point.{Point}
 use Rattle.nest_base.specs.declared.places.Edge.{Edge}
 use Rattle.nest_base.specs.Plane.{HalfEdge}
+use Rattle.nest_base.specs.Limits.{most_half_edges}
 use Rattle.plate_sides.specs.Links.{Outer, At}
 use Rattle.plate_sides.specs.Reach.{SameFace}
-use Rattle.plate_sides.specs.Nesting.{IsOuterRing}
+use Rattle.plate_sides.specs.Nesting.{IsOuterCycle}
 use Rattle.half_edges.specs.Numbers.{IsSide}
 use Rattle.half_edges.specs.Graph.{Graph}
 use Rattle.face_nesting.specs.Numbering.{outer_face}
@@ -18,19 +19,19 @@ pub record Nesting : Type 0 where
   pub count : ℕ
   -- by number of a component: that of its parent
   pub parents : List (Option ℕ)
-  -- half-edges ring by ring, the outer sides of each component first; and where each ring begins
+  -- half-edges cycle by cycle, the outer sides of each component first; and where each cycle begins
   pub sides : List ℕ
   pub starts : List ℕ
 
--- the half-edges of one ring
-abbrev pub ring_at : Nesting → ℕ → List ℕ
-ring_at nesting c = take (slice_index nesting.starts (c + 1) - slice_index nesting.starts c) (drop (slice_index nesting.starts c) nesting.sides)
+-- the half-edges of one cycle
+abbrev pub cycle_at : Nesting → ℕ → List ℕ
+cycle_at nesting c = take (slice_index nesting.starts (c + 1) - slice_index nesting.starts c) (drop (slice_index nesting.starts c) nesting.sides)
 
 -- what holds of the lists
 pub record IsNesting (nesting : Nesting) : Type 0 where
   pub some : 0 < nesting.count
-  pub fits : nesting.count ≤ 4000001
-  pub rings : length nesting.parents < length nesting.starts
+  pub fits : nesting.count ≤ most_half_edges + 1
+  pub cycles : length nesting.parents < length nesting.starts
   pub rising : (c : ℕ) → c < length nesting.parents → slice_index nesting.starts c < slice_index nesting.starts (c + 1)
   pub within : (c : ℕ) → c < length nesting.parents → slice_index nesting.starts (c + 1) ≤ length nesting.sides
 
@@ -48,9 +49,9 @@ pub record IsFaceCount (faces : List ℕ) (count : ℕ) : Type 0 where
 
 -- the numbers of the outer sides of the component with this mark vertex, round from the mark side on
 abbrev pub AreOuterSides : List Edge → Point → List ℕ → Type 0
-AreOuterSides edges mark sides = (ring : List HalfEdge) × AllZip (IsSide edges) sides ring × IsOuterRing edges mark ring
+AreOuterSides edges mark sides = (cycle : List HalfEdge) × AllZip (IsSide edges) sides cycle × IsOuterCycle edges mark cycle
 
 -- of each component
-abbrev pub AreOuterRings : Graph → Nesting → Type 0
-AreOuterRings graph nesting =
-    (c : ℕ) (mark : Point) → slice_get graph.marks c ≡ Some mark → AreOuterSides graph.edges mark (ring_at nesting c)
+abbrev pub AreOuterCycles : Graph → Nesting → Type 0
+AreOuterCycles graph nesting =
+    (c : ℕ) (mark : Point) → slice_get graph.marks c ≡ Some mark → AreOuterSides graph.edges mark (cycle_at nesting c)

@@ -1,6 +1,6 @@
 //! The mark sides of components.
 ghost use Rattle.std.specs.Prelude.{◌≡◌, IfOk};
-ghost use Rattle.face_nesting.specs.Numbering.{numbers_of};
+ghost use Rattle.nest_base.specs.NumberLists.{side_numbers};
 ghost use Rattle.face_nesting.specs.Sights.{AreMarkSides};
 
 use half_edges::PlaneGraph;
@@ -10,7 +10,7 @@ use std::alloc::Global;
 /// The mark side of each component: of the half-edges that leave its mark vertex, the one that is met last, counterclockwise from
 /// west.
 pub fn mark_sides(alloc: Global, graph: &PlaneGraph) -> Result<Vec<Side>, OutOfMemory>
-    ensures { IfOk result (λ sides. AreMarkSides graph.now.edges graph.now.marks (numbers_of sides.items)) }
+    ensures { IfOk result (λ sides. AreMarkSides graph.now.edges graph.now.marks (side_numbers sides.items)) }
 {
     let mut sides = Vec::new(alloc);
     for c in 0..graph.component_count() {

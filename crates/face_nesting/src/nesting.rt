@@ -3,16 +3,17 @@ ghost use Rattle.std.specs.Prelude.{◌≡◌, ◌≤◌, ◌<◌, length, slice
 ghost use Rattle.nest_base.specs.declared.numbers.Component.{Component};
 ghost use Rattle.plate_sides.specs.Nesting.{HasMarkSides, SeesOne, AreParents};
 ghost use Rattle.half_edges.specs.Numbers.{half_edges_of};
-ghost use Rattle.face_nesting.specs.Numbering.{numbers_of, parent_numbers_of, outer_face};
-ghost use Rattle.face_nesting.specs.Nesting.{AreFaces, IsFaceCount, AreOuterRings, ring_at};
+ghost use Rattle.face_nesting.specs.Numbering.{outer_face};
+ghost use Rattle.nest_base.specs.NumberLists.{parent_numbers, side_numbers};
+ghost use Rattle.face_nesting.specs.Nesting.{AreFaces, IsFaceCount, AreOuterCycles, cycle_at};
 
+use crate::cycles::cycles_of;
 use crate::marks::mark_sides;
 pub use crate::numbering::FaceId;
 use crate::numbering::{OUTER, faces_of, outer_faces, parents_of};
-use crate::rings::rings_of;
-use crate::sights::{edges_of, sights_of};
+use crate::sights::sights_of;
 use half_edges::PlaneGraph;
-use nest_base::{Component, OutOfMemory, Side};
+use nest_base::{Component, Edges, OutOfMemory, Side};
 use std::alloc::Global;
 use std::marker::Model;
 
@@ -40,30 +41,30 @@ impl Model for Faces {
 }
 
 impl Faces {
-    /// The faces of a graph.
+    /// The faces of a graph, made with the edges that it was built on.
     ///
     /// Takes **O(n + kn)** for n edges and k components. `OutOfMemory` comes for want of memory alone.
-    pub fn build(alloc: Global, graph: &PlaneGraph) -> Result<Faces, OutOfMemory>
+    pub fn build(alloc: Global, graph: &PlaneGraph, edges: &Edges) -> Result<Faces, OutOfMemory>
+        requires edges { edges.now ≡ graph.now.edges }
         ensures as_many { IfOk result (λ f. length f.faces ≡ length (half_edges_of graph.now.edges)) }
         ensures faces { IfOk result (λ f. AreFaces graph.now.edges f.faces) }
         ensures count { IfOk result (λ f. IsFaceCount f.faces f.count) }
         ensures parents { IfOk result (λ f. AreParents graph.now.edges graph.now.marks f.parents) }
-        ensures outer_rings { IfOk result (λ f. AreOuterRings graph.now f) }
+        ensures outer_cycles { IfOk result (λ f. AreOuterCycles graph.now f) }
         ensures mark_sides { IfOk result (λ f. HasMarkSides graph.now.edges) }
         ensures sees_one { IfOk result (λ f. SeesOne graph.now.edges) }
     {
-        let edges = edges_of(alloc, graph)?;
         let marks = mark_sides(alloc, graph)?;
-        let sights = sights_of(alloc, graph, &edges)?;
-        let rings = rings_of(alloc, graph, &marks)?;
-        let outer = outer_faces(alloc, &rings.ring_of, &sights)?;
-        let inner = (rings.starts.len() - 1 - marks.len()) as u32;
+        let sights = sights_of(alloc, graph, edges.as_slice())?;
+        let cycles = cycles_of(alloc, graph, &marks)?;
+        let outer = outer_faces(alloc, &cycles.cycle_of, &sights)?;
+        let inner = (cycles.starts.len() - 1 - marks.len()) as u32;
         Ok(Faces {
-            face_list: faces_of(alloc, &rings.ring_of, &outer)?,
+            face_list: faces_of(alloc, &cycles.cycle_of, &outer)?,
             number_of_faces: inner + 1,
             parent_list: parents_of(alloc, graph, &sights)?,
-            sides: rings.sides,
-            starts: rings.starts,
+            sides: cycles.sides,
+            starts: cycles.starts,
         })
     }
 
@@ -92,7 +93,7 @@ impl Faces {
     /// The mark side of a component: of the half-edges that leave its mark vertex, the one that is met last, counterclockwise from west.
     pub fn mark_side(&self, c: Component) -> Side
         requires { c.0 < length self.now.parents }
-        ensures { slice_get (ring_at self.now c.0) 0 ≡ Some result.0 }
+        ensures { slice_get (cycle_at self.now c.0) 0 ≡ Some result.0 }
     {
         self.sides[self.starts[c.0 as usize] as usize]
     }
@@ -107,7 +108,7 @@ impl Faces {
 
     /// The parent of each component, by number.
     pub fn parents(&self) -> &[Option<Component>]
-        ensures { parent_numbers_of result.now ≡ self.now.parents }
+        ensures { parent_numbers result.now ≡ self.now.parents }
     {
         &self.parent_list
     }
@@ -115,7 +116,7 @@ impl Faces {
     /// The outer sides of a component, each once, from the mark side on as each goes along to the next.
     pub fn outer_sides(&self, c: Component) -> &[Side]
         requires { c.0 < length self.now.parents }
-        ensures { numbers_of result.now ≡ ring_at self.now c.0 }
+        ensures { side_numbers result.now ≡ cycle_at self.now c.0 }
     {
         let first = self.starts[c.0 as usize] as usize;
         let behind = self.starts[c.0 as usize + 1] as usize;

@@ -2,7 +2,8 @@
 ghost use Rattle.std.specs.Prelude.{◌≡◌, ◌≤◌, List, length, slice_get, Some, All, IfOk, IfSome, IfNone};
 ghost use Rattle.nest_base.specs.Plane.{HalfEdge};
 ghost use Rattle.nest_base.specs.Sight.{GoesDown};
-ghost use Rattle.nest_base.specs.Range.{IsWithin, IsEdgeWithin};
+ghost use Rattle.nest_base.specs.Range.{IsWithin, IsEdgeWithin, widest};
+ghost use Rattle.nest_base.specs.Limits.{most_edges};
 ghost use Rattle.plate_sides.specs.Links.{IsSeen, SeesNone};
 ghost use Rattle.half_edges.specs.Numbers.{IsSide};
 ghost use Rattle.half_edges.specs.PlaneGraphs.{IsPlaneGraph};
@@ -13,25 +14,9 @@ use half_edges::PlaneGraph;
 use nest_base::{Component, Edge, OutOfMemory, Point, Side, is_nearer, west_of};
 use std::alloc::Global;
 
-/// The edges of a graph, in its order.
-pub fn edges_of(alloc: Global, graph: &PlaneGraph) -> Result<Vec<Edge>, OutOfMemory>
-    ensures edges { IfOk result (λ edges. edges.items ≡ graph.now.edges) }
-    ensures plane_graph { IfOk result (λ _. IsPlaneGraph graph.now) }
-{
-    let mut edges = Vec::new(alloc);
-    for k in 0..graph.edge_count() {
-        let forth = Side(2 * k);
-        edges.push(Edge {
-            low: graph.place(graph.from(forth)),
-            high: graph.place(graph.to(forth)),
-        })?;
-    }
-    Ok(edges)
-}
-
 /// The half-edge of the edge at place `k` that goes down; the one from its low end where it's level.
 fn downward(k: usize, e: &Edge) -> Side
-    requires { k ≤ 2000000 }
+    requires { k ≤ most_edges }
     ensures { (edges : List Edge) (d : HalfEdge) → slice_get edges k ≡ Some e.now → GoesDown e.now d → IsSide edges result.0 d }
 {
     let from_low = 2 * k as u32;
@@ -47,9 +32,9 @@ fn downward(k: usize, e: &Edge) -> Side
 ///
 /// Takes **O(n)** for n edges.
 fn seen_from(edges: &[Edge], p: Point) -> Option<Side>
-    requires few { length edges.now ≤ 2000000 }
-    requires edges_within { All (IsEdgeWithin 2000000000) edges.now }
-    requires p_within { IsWithin 2000000000 p }
+    requires few { length edges.now ≤ most_edges }
+    requires edges_within { All (IsEdgeWithin widest) edges.now }
+    requires p_within { IsWithin widest p }
     ensures found { IfSome result (λ s. (d : HalfEdge) × IsSide edges.now s.0 d × IsSeen edges.now p d) }
     ensures none { IfNone result (SeesNone edges.now p) }
 {
@@ -70,15 +55,15 @@ fn seen_from(edges: &[Edge], p: Point) -> Option<Side>
     Some(downward(k, &edges[k]))
 }
 
-/// What each component sees from its mark vertex.
+/// What each component sees from its mark vertex, by the edges of the graph.
 pub fn sights_of(
     alloc: Global,
     graph: &PlaneGraph,
     edges: &[Edge],
 ) -> Result<Vec<Option<Side>>, OutOfMemory>
     requires edges { edges.now ≡ graph.now.edges }
-    requires plane_graph { IsPlaneGraph graph.now }
-    ensures { IfOk result (λ sights. AreSights graph.now.edges graph.now.marks (sight_numbers_of sights.items)) }
+    ensures plane_graph { IfOk result (λ _. IsPlaneGraph graph.now) }
+    ensures sights { IfOk result (λ sights. AreSights graph.now.edges graph.now.marks (sight_numbers_of sights.items)) }
 {
     let mut sights = Vec::new(alloc);
     for c in 0..graph.component_count() {

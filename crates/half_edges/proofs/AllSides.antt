@@ -13,10 +13,11 @@ use Rattle.nest_base.specs.declared.places.Point.{Point}
 use Rattle.nest_base.specs.declared.places.Edge.{Edge}
 use Rattle.nest_base.specs.Plane.{HalfEdge}
 use Rattle.nest_base.specs.Order.{IsMarkedBefore}
+use Rattle.nest_base.specs.Limits.{most_edges, most_half_edges}
 use Rattle.half_edges.specs.Numbers.{half_edges_of, IsSide}
-use Rattle.half_edges.specs.Rings.{AreAllRound, IsBeforeAllRound}
+use Rattle.half_edges.specs.Rotations.{AreAllRound, IsBeforeAllRound}
 use Rattle.half_edges.specs.Runs.{side_at, from_at}
-use Rattle.half_edges.proofs.Items.{read-map, read_below, Contains-from_read, read_from_Contains, AllPairs-reads, AllPairs-from_reads}
+use Rattle.nest_base.proofs.ListReads.{read-map, read_below, Contains-from_read, read_from_Contains, AllPairs-reads, AllPairs-from_reads}
 use Rattle.half_edges.proofs.Numbers.{length-half_edges, side_within, side_below}
 use Rattle.half_edges.proofs.Rounds.{IsBeforeAllRound-irrefl}
 
@@ -83,7 +84,7 @@ module _ {edges : List Edge} {all : List ℕ} (whole : AreAllRound edges all) wh
           ])
 
 -- the half-edges are so few that their places fit 32 bits
-pub few_places : (edges : List Edge) (all : List Side) → length edges ≤ 2000000 → AreAllRound edges (map (λ s. s.0) all) → length all ≤ 4000000
+pub few_places : (edges : List Edge) (all : List Side) → length edges ≤ most_edges → AreAllRound edges (map (λ s. s.0) all) → length all ≤ most_half_edges
 few_places edges all few whole = omega (arith, length_of_all whole, length-map all (λ (s : Side). s.0))
 
 -- the place that the half-edge at a place leaves

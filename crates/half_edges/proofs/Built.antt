@@ -5,14 +5,15 @@ use Rattle.std.proofs.lemmas.Bool.{cases_order}
 use Rattle.nest_base.specs.declared.places.Point.{Point}
 use Rattle.nest_base.specs.declared.places.Edge.{Edge}
 use Rattle.nest_base.specs.Plane.{HalfEdge}
-use Rattle.nest_base.specs.Range.{IsEdgeWithin}
+use Rattle.nest_base.specs.Range.{IsEdgeWithin, widest}
+use Rattle.nest_base.specs.Limits.{most_edges}
 use Rattle.plate_edges.specs.Points.{EdgesMeetAtEndsOnly}
-use Rattle.plate_sides.specs.Sides.{forth}
+use Rattle.plate_sides.specs.HalfEdges.{forth}
 use Rattle.half_edges.specs.Numbers.{IsSide}
-use Rattle.half_edges.specs.Rings.{AreAllRound}
+use Rattle.half_edges.specs.Rotations.{AreAllRound}
 use Rattle.half_edges.specs.Layouts.{IsLayout, ArePositions}
-use Rattle.half_edges.specs.Graph.{edges_between, AreParts, IsGraph}
-use Rattle.half_edges.proofs.Items.{one_read, AllPairs-from_reads}
+use Rattle.half_edges.specs.Graph.{edges_between, AreComponents, IsGraph}
+use Rattle.nest_base.proofs.ListReads.{one_read, AllPairs-from_reads}
 use Rattle.half_edges.proofs.Numbers.{side_low}
 use Rattle.half_edges.proofs.Rounds.{IsBeforeAllRound-irrefl}
 use Rattle.half_edges.proofs.AllSides.{place_of, places_in_order}
@@ -41,10 +42,10 @@ module _ (edges : List Edge) (all : List ℕ) (are : AreAllRound edges all) wher
       let number = one_number (2 * i) (2 * j) (forth e) (side_low edges i e at_i) (subst (λ d. IsSide edges (2 * j) (forth d)) (sym same) (side_low edges j f at_j)) in
       omega (arith, number))
 
-pub graph_of_lists : (edges : List Edge) (vertices : List Point) (origins all starts positions parts burnt : List ℕ) (marks : List Point) →
-    length edges ≤ 2000000 → AreOrdered edges → All (IsEdgeWithin 2000000000) edges → AllPairs EdgesMeetAtEndsOnly edges → AreAllRound edges all → IsLayout edges vertices origins all starts → ArePositions edges positions → AreParts edges vertices parts marks →
-    IsGraph (record { edges = edges_between vertices origins; vertices = vertices; marks = marks; origins = origins; positions = positions; all = all; starts = starts; parts = parts; burnt = burnt })
-graph_of_lists edges vertices origins all starts positions parts burnt marks few ordered within apart are layout are_positions are_parts =
-    subst (λ (es : List Edge). IsGraph (record { edges = es; vertices = vertices; marks = marks; origins = origins; positions = positions; all = all; starts = starts; parts = parts; burnt = burnt }))
+pub graph_of_lists : (edges : List Edge) (vertices : List Point) (origins all starts positions components burnt : List ℕ) (marks : List Point) →
+    length edges ≤ most_edges → AreOrdered edges → All (IsEdgeWithin widest) edges → AllPairs EdgesMeetAtEndsOnly edges → AreAllRound edges all → IsLayout edges vertices origins all starts → ArePositions edges positions → AreComponents edges vertices components marks →
+    IsGraph (record { edges = edges_between vertices origins; vertices = vertices; marks = marks; origins = origins; positions = positions; all = all; starts = starts; components = components; burnt = burnt })
+graph_of_lists edges vertices origins all starts positions components burnt marks few ordered within apart are layout are_positions are_components =
+    subst (λ (es : List Edge). IsGraph (record { edges = es; vertices = vertices; marks = marks; origins = origins; positions = positions; all = all; starts = starts; components = components; burnt = burnt }))
     (sym (edges_of_layout edges vertices origins all starts layout))
-    (record { few = few; ends_in_order = ordered; each_once = edges_each_once edges all are; within = within; apart = apart; layout = layout; are_positions = are_positions; are_parts = are_parts })
+    (record { few = few; ends_in_order = ordered; each_once = edges_each_once edges all are; within = within; apart = apart; layout = layout; are_positions = are_positions; are_components = are_components })

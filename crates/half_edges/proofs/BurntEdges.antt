@@ -8,9 +8,9 @@ use Rattle.std.proofs.lemmas.List.{length-map}
 use Rattle.std.proofs.lemmas.List.Elements.{All-nil, All-contains, All-push, All-map, Contains-append_left, Contains-push, Contains-push_cases}
 use Rattle.nest_base.proofs.Lists.{Contains-none, AllPairs-none, All-from_contains}
 use Rattle.plate_edges.proofs.Lists.{AllPairs-map}
-use Rattle.half_edges.specs.Numbers.{twin_number}
+use Rattle.rotation_systems.specs.Twins.{twin_number}
 use Rattle.half_edges.specs.Burns.{HasEdgeOf, AreOfTwoEdges, AreFlagsOf}
-use Rattle.half_edges.proofs.Items.{read_from_Contains, Contains-from_read, AllPairs-reads, AllPairs-from_reads, AllPairs-pushed, read_kept, read_pushed}
+use Rattle.nest_base.proofs.ListReads.{read_from_Contains, Contains-from_read, AllPairs-reads, AllPairs-from_reads, AllPairs-pushed, read_kept, read_pushed}
 use Rattle.half_edges.proofs.Fewer.{few_below}
 
 abbrev half : ℕ → ℕ

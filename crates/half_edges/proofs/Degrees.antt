@@ -14,12 +14,12 @@ use Rattle.plate_edges.specs.Edges.{IsEdgeBefore}
 use Rattle.plate_edges.proofs.Counts.{same_number}
 use Rattle.plate_edges.proofs.Orders.{by_order, IsEdgeBefore-asym, IsEdgeBefore-trans, IsEdgeBefore-total}
 use Rattle.plate_edges.proofs.Sorts.{IsStrictOrder}
-use Rattle.plate_sides.specs.Sides.{forth, IsHalfEdgeOf, Leaves}
+use Rattle.plate_sides.specs.HalfEdges.{forth, IsHalfEdgeOf, Leaves}
 use Rattle.plate_sides.proofs.HalfEdges.{one_edge, from_is_end, leaves_once}
-use Rattle.plate_covers.specs.Odd.{HasDegree}
-use Rattle.half_edges.specs.Rings.{IsRing, IsBeforeRound}
+use Rattle.plate_sides.specs.Odd.{HasDegree}
+use Rattle.half_edges.specs.Rotations.{IsRotation, IsBeforeRound}
 use Rattle.half_edges.proofs.Rounds.{IsBeforeFromWest-asym}
-use Rattle.half_edges.proofs.Items.{AllPairs-reads, AllPairs-from_reads}
+use Rattle.nest_base.proofs.ListReads.{AllPairs-reads, AllPairs-from_reads}
 
 -- e ends at v
 abbrev EndsAt : Point → Edge → Type 0
@@ -142,11 +142,11 @@ degree_of_sides edges v sides ahead apart all_sides =
     let all = all_leaving v edges ahead apart in
     (all.ending, all.selected, all.as_many ∙ same_number IsSideBefore IsSideBefore-is_strict (Leaves edges v) all.sides sides all.all_sides all_sides)
 
--- and the length of its ring
-pub degree_of_ring : (edges : List Edge) (v : Point) (ring : List HalfEdge) → All (λ (e : Edge). IsBefore e.low e.high) edges → AllPairs (λ (e : Edge) (f : Edge). e ≢ f) edges →
-    IsRing edges v ring → HasDegree edges v (length ring)
-degree_of_ring edges v ring ahead apart is =
-    let once : AllPairs (λ x y. x ≢ y) ring = AllPairs-from_reads (λ x y. x ≢ y) ring (λ i j g h less at_g at_h same.
-    let before = AllPairs-reads IsBeforeRound ring i j g h is.in_order less at_g at_h in
+-- and the length of its rotation
+pub degree_of_rotation : (edges : List Edge) (v : Point) (rotation : List HalfEdge) → All (λ (e : Edge). IsBefore e.low e.high) edges → AllPairs (λ (e : Edge) (f : Edge). e ≢ f) edges →
+    IsRotation edges v rotation → HasDegree edges v (length rotation)
+degree_of_rotation edges v rotation ahead apart is =
+    let once : AllPairs (λ x y. x ≢ y) rotation = AllPairs-from_reads (λ x y. x ≢ y) rotation (λ i j g h less at_g at_h same.
+    let before = AllPairs-reads IsBeforeRound rotation i j g h is.in_order less at_g at_h in
     let loop : IsBeforeRound h h = subst (λ x. IsBeforeRound x h) same before in IsBeforeFromWest-asym _ _ loop loop) in
-    degree_of_sides edges v ring ahead apart (record { each_once = once; are_all = is.are_all })
+    degree_of_sides edges v rotation ahead apart (record { each_once = once; are_all = is.are_all })

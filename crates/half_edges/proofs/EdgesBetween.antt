@@ -4,7 +4,7 @@ use Rattle.std.proofs.lemmas.Option.{get_or_from_slice_get, same_Some}
 use Rattle.nest_base.specs.declared.places.Point.{Point}
 use Rattle.nest_base.specs.declared.places.Edge.{Edge}
 use Rattle.nest_base.specs.Plane.{HalfEdge, twin}
-use Rattle.plate_sides.specs.Sides.{forth}
+use Rattle.plate_sides.specs.HalfEdges.{forth}
 use Rattle.half_edges.specs.Numbers.{half_edges_of, IsSide}
 use Rattle.half_edges.specs.Graph.{vertex_at, edges_between}
 

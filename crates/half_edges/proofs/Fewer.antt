@@ -7,7 +7,7 @@ use Rattle.std.proofs.lemmas.List.FromFn.{length-range_with_len, get_or-range_wi
 use Rattle.std.proofs.lemmas.List.Elements.{All-contains}
 use Rattle.nest_base.proofs.Fewer.{fewer}
 use Rattle.plate_edges.proofs.Lists.{AllPairs-map, origin_in}
-use Rattle.half_edges.proofs.Items.{Contains-from_read, AllPairs-reads, AllPairs-from_reads}
+use Rattle.nest_base.proofs.ListReads.{Contains-from_read, AllPairs-reads, AllPairs-from_reads}
 
 -- where elements are told apart by what a map makes of them
 pub fewer-map : {X Y : Type 0} (f : X → Y) (xs : List X) (ys : List Y) → AllPairs (λ x y. x ≢ y) xs →

@@ -14,19 +14,19 @@ use Rattle.nest_base.proofs.Walks.{Walk-keeps, Walk-back}
 use Rattle.plate_sides.specs.Components.{IsJoinedTo, SameComponent, IsMark}
 use Rattle.plate_sides.proofs.HalfEdges.{twin_is_half_edge}
 use Rattle.half_edges.specs.Layouts.{AreVertices}
-use Rattle.half_edges.specs.Graph.{AreParts}
-use Rattle.half_edges.specs.Floods.{none, part_at, IsFlood, AreKept}
-use Rattle.half_edges.proofs.Items.{one_read, Contains-from_read, read_from_Contains, AllPairs-reads}
+use Rattle.half_edges.specs.Graph.{AreComponents}
+use Rattle.half_edges.specs.Floods.{none, component_at, IsFlood, AreKept}
+use Rattle.nest_base.proofs.ListReads.{one_read, Contains-from_read, read_from_Contains, AllPairs-reads}
 use Rattle.nest_base.proofs.Orders.{IsMarkedBefore-asym}
 
 -- p is a vertex whose component has no number
 abbrev IsBare : List Point → List ℕ → Point → Type 0
-IsBare vertices parts p = (v : ℕ) × (slice_get vertices v ≡ Some p) × (part_at parts v ≡ none)
+IsBare vertices components p = (v : ℕ) × (slice_get vertices v ≡ Some p) × (component_at components v ≡ none)
 
 -- where nothing waits, the neighbours of a vertex that has no number have none
-bare_joined : (edges : List Edge) (vertices : List Point) (parts : List ℕ) (marks : List Point) (p q : Point) →
-    AreVertices edges vertices → IsFlood edges vertices parts marks [] → IsJoinedTo edges p q → IsBare vertices parts q → IsBare vertices parts p
-bare_joined edges vertices parts marks p q are f join (w, at_w, bare) =
+bare_joined : (edges : List Edge) (vertices : List Point) (components : List ℕ) (marks : List Point) (p q : Point) →
+    AreVertices edges vertices → IsFlood edges vertices components marks [] → IsJoinedTo edges p q → IsBare vertices components q → IsBare vertices components p
+bare_joined edges vertices components marks p q are f join (w, at_w, bare) =
     let found = read_from_Contains vertices p ((are.are_all p).1 (record { from = p; to = q }, (join, refl))) in
     elim (f.closed found.0 w (record { place = p; other = q; at_place = found.1; at_other = at_w; edge = join })) [
       | inl none_too ↦ (found.0, found.1, none_too)
@@ -35,21 +35,21 @@ bare_joined edges vertices parts marks p q are f join (w, at_w, bare) =
     ]
 
 -- nor have any of its component
-bare_component : (edges : List Edge) (vertices : List Point) (parts : List ℕ) (marks : List Point) (p q : Point) →
-    AreVertices edges vertices → IsFlood edges vertices parts marks [] → SameComponent edges q p → IsBare vertices parts p → IsBare vertices parts q
-bare_component edges vertices parts marks p q are f walk bare =
-    Walk-keeps (IsBare vertices parts)
-    (λ a b join. (λ at_a. bare_joined edges vertices parts marks b a are f (twin_is_half_edge edges (record { from = a; to = b }) join) at_a, bare_joined edges vertices parts marks a b are f join))
+bare_component : (edges : List Edge) (vertices : List Point) (components : List ℕ) (marks : List Point) (p q : Point) →
+    AreVertices edges vertices → IsFlood edges vertices components marks [] → SameComponent edges q p → IsBare vertices components p → IsBare vertices components q
+bare_component edges vertices components marks p q are f walk bare =
+    Walk-keeps (IsBare vertices components)
+    (λ a b join. (λ at_a. bare_joined edges vertices components marks b a are f (twin_is_half_edge edges (record { from = a; to = b }) join) at_a, bare_joined edges vertices components marks a b are f join))
     walk bare
 
 -- the first vertex without a number is a mark vertex
-pub new_mark : (edges : List Edge) (vertices : List Point) (parts : List ℕ) (marks : List Point) (v : ℕ) (p : Point) →
-    AreVertices edges vertices → IsFlood edges vertices parts marks [] → ((j : ℕ) → j < v → part_at parts j ≢ none) →
-    slice_get vertices v ≡ Some p → part_at parts v ≡ none → IsMark edges p
-new_mark edges vertices parts marks v p are f before at bare = record {
+pub new_mark : (edges : List Edge) (vertices : List Point) (components : List ℕ) (marks : List Point) (v : ℕ) (p : Point) →
+    AreVertices edges vertices → IsFlood edges vertices components marks [] → ((j : ℕ) → j < v → component_at components j ≢ none) →
+    slice_get vertices v ≡ Some p → component_at components v ≡ none → IsMark edges p
+new_mark edges vertices components marks v p are f before at bare = record {
   vertex = (are.are_all p).0 (Contains-from_read vertices v p at);
   first = λ q walk.
-      let found = bare_component edges vertices parts marks p q are f walk (v, at, bare) in
+      let found = bare_component edges vertices components marks p q are f walk (v, at, bare) in
       elim (cases_order found.0 v) [
         | inl same ↦ inl (one_read vertices v q p (ap (slice_get vertices) (sym same) ∙ found.1) at)
         | inr (inl less) ↦ absurd (before found.0 less found.2)
@@ -98,10 +98,10 @@ one_mark edges m n is_m is_n walk = elim (is_n.first m walk) [
 ]
 
 -- once all vertices have a number
-pub parts_found : (edges : List Edge) (vertices : List Point) (parts : List ℕ) (marks : List Point) → AreVertices edges vertices →
-    IsFlood edges vertices parts marks [] → AreFirstMarks edges vertices (length vertices) marks → ((j : ℕ) → j < length vertices → part_at parts j ≢ none) →
-    AreParts edges vertices parts marks
-parts_found edges vertices parts marks are f firsts numbered = record {
+pub components_found : (edges : List Edge) (vertices : List Point) (components : List ℕ) (marks : List Point) → AreVertices edges vertices →
+    IsFlood edges vertices components marks [] → AreFirstMarks edges vertices (length vertices) marks → ((j : ℕ) → j < length vertices → component_at components j ≢ none) →
+    AreComponents edges vertices components marks
+components_found edges vertices components marks are f firsts numbered = record {
   are_marks = record {
     in_order = firsts.in_order;
     are_all = λ x. (
@@ -109,7 +109,7 @@ parts_found edges vertices parts marks are f firsts numbered = record {
       λ is.
           let found = read_from_Contains vertices x ((are.are_all x).1 is.vertex) in
           let led = f.leads found.0 x found.1 (numbered found.0 (slice_get_within vertices found.0 x found.1)) in
-          let stands = Contains-from_read marks (part_at parts found.0) led.0 led.1 in
+          let stands = Contains-from_read marks (component_at components found.0) led.0 led.1 in
           subst (Contains marks) (sym (one_mark edges x led.0 is (firsts.each led.0 stands).3 led.2)) stands,
     );
   };
@@ -117,22 +117,22 @@ parts_found edges vertices parts marks are f firsts numbered = record {
   leads = λ v p at.
       let within = slice_get_within vertices v p at in
       let led = f.leads v p at (numbered v within) in
-      (part_at parts v, led.0, slice_get-get_or parts v none (omega (arith, f.as_many, within)), led.1, led.2);
+      (component_at components v, led.0, slice_get-get_or components v none (omega (arith, f.as_many, within)), led.1, led.2);
 }
 
 -- what holds once the first v vertices have a number
-pub record AreNumbered (known : List Edge → Type 0) (vertices : List Point) (v : ℕ) (parts : List ℕ) (marks : List Point) (found : List ℕ) : Type 0 where
-  pub as_many : length parts ≡ length vertices
+pub record AreNumbered (known : List Edge → Type 0) (vertices : List Point) (v : ℕ) (components : List ℕ) (marks : List Point) (found : List ℕ) : Type 0 where
+  pub as_many : length components ≡ length vertices
   pub few : length marks ≤ v
   pub empty : found ≡ []
-  pub numbered : (j : ℕ) → j < v → part_at parts j ≢ none
-  pub flood : (edges : List Edge) → known edges → IsFlood edges vertices parts marks []
+  pub numbered : (j : ℕ) → j < v → component_at components j ≢ none
+  pub flood : (edges : List Edge) → known edges → IsFlood edges vertices components marks []
   pub firsts : (edges : List Edge) → known edges → AreFirstMarks edges vertices v marks
 
 -- before the first one
-pub numbers_begun : (known : List Edge → Type 0) (vertices : List Point) (parts : List ℕ) (marks : List Point) (found : List ℕ) →
-    length parts ≡ length vertices → ((v : ℕ) → part_at parts v ≡ none) → marks ≡ [] → found ≡ [] → AreNumbered known vertices 0 parts marks found
-numbers_begun known vertices parts marks found as_many bare no_marks none_found = record {
+pub numbers_begun : (known : List Edge → Type 0) (vertices : List Point) (components : List ℕ) (marks : List Point) (found : List ℕ) →
+    length components ≡ length vertices → ((v : ℕ) → component_at components v ≡ none) → marks ≡ [] → found ≡ [] → AreNumbered known vertices 0 components marks found
+numbers_begun known vertices components marks found as_many bare no_marks none_found = record {
   as_many = as_many;
   few = omega (arith, ap length no_marks);
   empty = none_found;
@@ -147,9 +147,9 @@ numbers_begun known vertices parts marks found as_many bare no_marks none_found 
 }
 
 -- v had a number
-pub numbers_passed : (known : List Edge → Type 0) (vertices : List Point) (v : ℕ) (parts : List ℕ) (marks : List Point) (found : List ℕ) →
-    AreNumbered known vertices v parts marks found → part_at parts v ≢ none → AreNumbered known vertices (v + 1) parts marks found
-numbers_passed known vertices v parts marks found s has = record {
+pub numbers_passed : (known : List Edge → Type 0) (vertices : List Point) (v : ℕ) (components : List ℕ) (marks : List Point) (found : List ℕ) →
+    AreNumbered known vertices v components marks found → component_at components v ≢ none → AreNumbered known vertices (v + 1) components marks found
+numbers_passed known vertices v components marks found s has = record {
   as_many = s.as_many;
   few = omega (arith, s.few);
   empty = s.empty;
@@ -159,12 +159,12 @@ numbers_passed known vertices v parts marks found s has = record {
 }
 
 -- v had none, and its component was found
-pub numbers_more : (known : List Edge → Type 0) (vertices : List Point) (v : ℕ) (p : Point) (parts : List ℕ) (marks : List Point) (found : List ℕ)
+pub numbers_more : (known : List Edge → Type 0) (vertices : List Point) (v : ℕ) (p : Point) (components : List ℕ) (marks : List Point) (found : List ℕ)
     (later : List ℕ) (later_marks : List Point) (more : List ℕ) (edges : List Edge) → known edges →
-    ((edges : List Edge) → known edges → AreVertices edges vertices) → AreNumbered known vertices v parts marks found → slice_get vertices v ≡ Some p → part_at parts v ≡ none →
-    later_marks ≡ marks ++ p ∷ [] → more ≡ [] → AreKept parts later → part_at later v ≢ none → ((edges : List Edge) → known edges → IsFlood edges vertices later later_marks []) →
+    ((edges : List Edge) → known edges → AreVertices edges vertices) → AreNumbered known vertices v components marks found → slice_get vertices v ≡ Some p → component_at components v ≡ none →
+    later_marks ≡ marks ++ p ∷ [] → more ≡ [] → AreKept components later → component_at later v ≢ none → ((edges : List Edge) → known edges → IsFlood edges vertices later later_marks []) →
     AreNumbered known vertices (v + 1) later later_marks more
-numbers_more known vertices v p parts marks found later later_marks more edges is are s at bare marks_are none_waits kept has flood = record {
+numbers_more known vertices v p components marks found later later_marks more edges is are s at bare marks_are none_waits kept has flood = record {
   as_many = (flood edges is).as_many;
   few = omega (arith, s.few, ap length marks_are, length_push marks p);
   empty = none_waits;
@@ -172,5 +172,5 @@ numbers_more known vertices v p parts marks found later later_marks more edges i
   flood = flood;
   firsts = λ other known_too. rw marks_are
       (more_first_marks other vertices v marks p (are other known_too) (s.firsts other known_too) at
-      (new_mark other vertices parts marks v p (are other known_too) (s.flood other known_too) s.numbered at bare));
+      (new_mark other vertices components marks v p (are other known_too) (s.flood other known_too) s.numbered at bare));
 }

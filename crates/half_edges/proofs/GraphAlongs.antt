@@ -4,14 +4,15 @@ use Rattle.std.proofs.lemmas.Bool.{cases_eq}
 use Rattle.std.proofs.lemmas.Bool.Decides.{nat_tests}
 use Rattle.std.proofs.lemmas.Option.{slice_get_within, get_or_from_slice_get}
 use Rattle.nest_base.specs.Plane.{HalfEdge, twin}
-use Rattle.plate_sides.specs.Sides.{IsNextCw}
-use Rattle.half_edges.specs.Numbers.{half_edges_of, IsSide, twin_number}
-use Rattle.half_edges.specs.Graph.{Graph, IsGraph, GoesAlong, LieInParts, origin_of, place_of, part_of, degree_of, cw_of, place_before}
-use Rattle.half_edges.proofs.Items.{read_below}
+use Rattle.plate_sides.specs.HalfEdges.{IsNextCw}
+use Rattle.half_edges.specs.Numbers.{half_edges_of, IsSide}
+use Rattle.rotation_systems.specs.Twins.{twin_number}
+use Rattle.half_edges.specs.Graph.{Graph, IsGraph, GoesAlong, LieInComponents, origin_of, place_of, component_of, degree_of, cw_of, place_before}
+use Rattle.nest_base.proofs.ListReads.{read_below}
 use Rattle.half_edges.proofs.Numbers.{one_side, side_is_half_edge}
 use Rattle.half_edges.proofs.Twins.{IsSide-twin}
 use Rattle.half_edges.proofs.Cycles.{before_below}
-use Rattle.half_edges.proofs.NextRound.{IsNextPlace, next_in_ring}
+use Rattle.half_edges.proofs.NextRound.{IsNextPlace, next_in_rotation}
 use Rattle.half_edges.proofs.GraphCycles.{read, side_there}
 
 -- a place comes next after the one before it
@@ -32,9 +33,9 @@ module _ (graph : Graph) (known : IsGraph graph) where
       let at = read known s (slice_get_within (half_edges_of graph.edges) s h is) in
       let n = degree_of graph (origin_of graph s) in
       let k = place_of graph s in
-      let place : k < n = omega (arith, at.long, slice_get_within at.ring k at.half at.stands) in
-      let t = read_below at.ring (place_before n k) (omega (arith, at.long, before_below n k place)) in
-      let next = next_in_ring graph.edges known.ends_in_order at.half.from at.ring at.is_ring (place_before n k) k t.0 at.half t.1 at.stands
+      let place : k < n = omega (arith, at.long, slice_get_within at.rotation k at.half at.stands) in
+      let t = read_below at.rotation (place_before n k) (omega (arith, at.long, before_below n k place)) in
+      let next = next_in_rotation graph.edges known.ends_in_order at.half.from at.rotation at.is_rotation (place_before n k) k t.0 at.half t.1 at.stands
       (subst (λ long. IsNextPlace long (place_before n k) k) at.long (next_after_before n k place)) in
       (t.0, side_there known s at (place_before n k) t.0 t.1, subst (λ g. IsNextCw graph.edges g t.0) (one_side graph.edges s at.half h at.is_side is) next)
 
@@ -43,10 +44,10 @@ module _ (graph : Graph) (known : IsGraph graph) where
       let next = next_clockwise (twin_number s) (twin h) (IsSide-twin graph.edges s h is) in
       (next.0, next.1, (side_is_half_edge graph.edges s h is, next.2))
 
-  pub lie_in_parts : LieInParts graph
-  lie_in_parts s h is =
+  pub lie_in_components : LieInComponents graph
+  lie_in_components s h is =
       let vertex = known.layout.leaves s h is in
-      let part = known.are_parts.leads vertex.0 h.from vertex.2 in
+      let component = known.are_components.leads vertex.0 h.from vertex.2 in
       let origin = get_or_from_slice_get graph.origins s vertex.0 0 vertex.1 in
-      let number : part_of graph (origin_of graph s) ≡ part.0 = ap (part_of graph) origin ∙ get_or_from_slice_get graph.parts vertex.0 part.0 0 part.2 in
-      (part.1, ap (slice_get graph.marks) number ∙ part.3, (side_is_half_edge graph.edges s h is, part.4))
+      let number : component_of graph (origin_of graph s) ≡ component.0 = ap (component_of graph) origin ∙ get_or_from_slice_get graph.components vertex.0 component.0 0 component.2 in
+      (component.1, ap (slice_get graph.marks) number ∙ component.3, (side_is_half_edge graph.edges s h is, component.4))

@@ -7,12 +7,12 @@ use Rattle.nest_base.specs.declared.places.Edge.{Edge}
 use Rattle.nest_base.specs.Plane.{HalfEdge}
 use Rattle.nest_base.specs.Order.{IsMarkedBefore}
 use Rattle.plate_edges.proofs.Lists.{Contains-map}
-use Rattle.plate_sides.specs.Sides.{IsVertex}
+use Rattle.plate_sides.specs.HalfEdges.{IsVertex}
 use Rattle.plate_sides.specs.Components.{AreMarks}
 use Rattle.half_edges.specs.Numbers.{half_edges_of}
 use Rattle.half_edges.specs.Layouts.{AreVertices}
 use Rattle.nest_base.proofs.Orders.{IsMarkedBefore-irrefl}
-use Rattle.half_edges.proofs.Items.{Contains-from_read}
+use Rattle.nest_base.proofs.ListReads.{Contains-from_read}
 use Rattle.half_edges.proofs.Numbers.{length-half_edges, side_from_half_edge}
 use Rattle.nest_base.proofs.Fewer.{fewer}
 

@@ -7,7 +7,7 @@ use Rattle.std.proofs.lemmas.List.Elements.{All-push, All-weaker}
 use Rattle.nest_base.specs.declared.places.Point.{Point}
 use Rattle.nest_base.specs.Order.{IsMarkedBefore}
 use Rattle.half_edges.specs.Runs.{IsInRun, AreAllRuns}
-use Rattle.half_edges.proofs.Items.{read_below, one_read, AllPairs-reads, AllPairs-pushed, read_pushed, read_kept, read_of_pushed, All-read}
+use Rattle.nest_base.proofs.ListReads.{read_below, one_read, AllPairs-reads, AllPairs-pushed, read_pushed, read_kept, read_of_pushed, All-read}
 use Rattle.nest_base.proofs.Orders.{IsMarkedBefore-trans}
 
 -- the runs of the first n places, where `at` is the vertex of each place

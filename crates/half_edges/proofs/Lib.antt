@@ -1,4 +1,3 @@
-pub mod Items
 pub mod Numbers
 pub mod Rounds
 pub mod FoldedCorners
@@ -7,7 +6,7 @@ pub mod SpokeOrder
 pub mod Spokes
 pub mod Grouping
 pub mod AllSides
-pub mod RingNumbers
+pub mod RotationNumbers
 pub mod EdgesBetween
 pub mod NextRound
 pub mod Fewer
@@ -27,7 +26,7 @@ pub mod RotationLaws
 pub mod RoundOfGraph
 pub mod PlaneGraphs
 pub mod GraphAlongs
-pub mod RingRuns
+pub mod RotationRuns
 pub mod LaidOut
 pub mod Degrees
 pub mod NumberLists

@@ -4,9 +4,9 @@ use Rattle.std.specs.Prelude.{Some, slice_get}
 use Rattle.std.proofs.lemmas.Option.{none-some, same_Some, slice_get_within, get_or_from_slice_get}
 use Rattle.nest_base.specs.declared.places.Edge.{Edge}
 use Rattle.nest_base.specs.Plane.{HalfEdge, twin}
-use Rattle.plate_sides.specs.Sides.{forth, IsHalfEdge, IsHalfEdgeOf}
+use Rattle.plate_sides.specs.HalfEdges.{forth, IsHalfEdge, IsHalfEdgeOf}
 use Rattle.half_edges.specs.Numbers.{half_edges_of, IsSide}
-use Rattle.half_edges.proofs.Items.{read_below, one_read, Contains-from_read, read_from_Contains}
+use Rattle.nest_base.proofs.ListReads.{read_below, one_read, Contains-from_read, read_from_Contains}
 
 -- two for each edge
 pub length-half_edges : (edges : List Edge) → length (half_edges_of edges) ≡ 2 * length edges
@@ -20,6 +20,11 @@ IsSideOf edges s h k e = (slice_get edges k ≡ Some e) × (((s ≡ 2 * k) × (h
 IsSideOf-later : (d : Edge) (edges : List Edge) (s k : ℕ) (h : HalfEdge) (e : Edge) → IsSideOf edges s h k e → IsSideOf (d ∷ edges) (suc (suc s)) h (suc k) e
 IsSideOf-later d edges s k h e (at, inl (number, is)) = (at, inl (omega arith, is))
 IsSideOf-later d edges s k h e (at, inr (number, is)) = (at, inr (omega arith, is))
+
+-- a half-edge with a number of an edge belongs to it
+pub is_of_edge : (edges : List Edge) (s k : ℕ) (h : HalfEdge) (e : Edge) → IsSideOf edges s h k e → IsHalfEdgeOf e h
+is_of_edge edges s k h e (at, inl (number, is)) = inl is
+is_of_edge edges s k h e (at, inr (number, is)) = inr is
 
 -- which edge has the half-edge with this number
 pub side_of : (edges : List Edge) (s : ℕ) (h : HalfEdge) → IsSide edges s h → (k : ℕ) × (e : Edge) × IsSideOf edges s h k e

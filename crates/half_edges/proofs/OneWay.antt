@@ -1,10 +1,8 @@
 -- No two half-edges leave one vertex in one direction.
-use Rattle.std.proofs.Common.{arith, ◌≡◌, ◌≢◌, ◌⊎◌, inl, inr, ℤ, pos, ◌-ℤ◌, ◌*ℤ◌, ◌<ℤ◌, ℕ, ◌+◌, ◌*◌, List, sym, ap, subst, ◌∙◌}
+use Rattle.std.proofs.Common.{◌≡◌, ◌≢◌, ◌⊎◌, inl, inr, ℕ, ◌+◌, ◌*◌, List, sym, ap, subst, ◌∙◌}
 use Rattle.std.specs.Prelude.{slice_get, All, AllPairs}
 use Rattle.std.proofs.lemmas.Bool.{cases_order}
-use Rattle.std.proofs.lemmas.Int.{ints, by_lt_z}
 use Rattle.std.proofs.lemmas.List.Elements.{All-contains}
-use Rattle.nest_base.specs.declared.places.Point.{Point}
 use Rattle.nest_base.specs.declared.places.Segment.{Segment}
 use Rattle.nest_base.specs.declared.places.Edge.{Edge}
 use Rattle.nest_base.specs.Plane.{HalfEdge, twin, heading, direction}
@@ -13,42 +11,14 @@ use Rattle.nest_base.specs.Angles.{IsDirection}
 use Rattle.nest_base.specs.Order.{IsBefore}
 use Rattle.nest_base.proofs.Orders.{IsBefore-irrefl}
 use Rattle.nest_base.proofs.Points.{IsDirection-direction}
-use Rattle.nest_base.proofs.Signs.{by_sign, mul_neg, mul_nonpos}
-use Rattle.segment_meeting.specs.Sides.{LieBeyond}
-use Rattle.segment_meeting.specs.Folds.{Folds}
+use Rattle.segment_meeting.proofs.OneDirection.{one_direction}
 use Rattle.half_edges.proofs.FoldedCorners.{Joins, folded_corner}
 use Rattle.plate_edges.specs.Points.{EdgesMeetAtEndsOnly}
-use Rattle.plate_sides.specs.Sides.{forth, IsHalfEdgeOf, IsHalfEdge}
+use Rattle.plate_sides.specs.HalfEdges.{forth, IsHalfEdgeOf, IsHalfEdge}
 use Rattle.plate_sides.proofs.HalfEdges.{ends_differ}
 use Rattle.half_edges.specs.Numbers.{IsSide}
-use Rattle.half_edges.proofs.Items.{one_read, All-read, AllPairs-reads}
-use Rattle.half_edges.proofs.Numbers.{IsSideOf, side_of, side_is_half_edge}
-
--- where a product is positive its two numbers have one sign
-one_sign : (a b : ℤ) → pos 0 <ℤ (a *ℤ b) → LieBeyond (pos 0) a b
-one_sign a b up = by_sign a
-    (λ above. by_sign b
-    (λ above_b. inl (above, above_b))
-    (λ none. absurd (omega (arith, ints, mul_nonpos a b (omega (arith, ints)) (omega (arith, ints, none)))))
-    (λ below_b. absurd (omega (arith, ints, mul_neg a b above below_b))))
-    (λ none. absurd (omega (arith, ints, up, ap (λ z. z *ℤ b) none)))
-    (λ below. by_sign b
-    (λ above_b. absurd (omega (arith, ints, mul_neg b a above_b below)))
-    (λ none. absurd (omega (arith, ints, up, ap (λ z. a *ℤ z) none)))
-    (λ below_b. inr (below, below_b)))
-
-moved_beyond : (o u v : ℤ) → LieBeyond (pos 0) (u -ℤ o) (v -ℤ o) → LieBeyond o u v
-moved_beyond o u v (inl h) = inl (omega (arith, ints, h), omega (arith, ints, h))
-moved_beyond o u v (inr h) = inr (omega (arith, ints, h), omega (arith, ints, h))
-
--- segments from o in one direction fold back on each other
-one_direction : (o u v : Point) → IsSameDirection (direction o u) (direction o v) → Folds o u v
-one_direction o u v same = record {
-  straight = same.0;
-  one_way = by_lt_z (pos 0) ((u.x -ℤ o.x) *ℤ (v.x -ℤ o.x))
-      (λ up. inl (moved_beyond o.x u.x v.x (one_sign (u.x -ℤ o.x) (v.x -ℤ o.x) up)))
-      (λ low. inr (moved_beyond o.y u.y v.y (one_sign (u.y -ℤ o.y) (v.y -ℤ o.y) (omega (arith, ints, same.1)))));
-}
+use Rattle.nest_base.proofs.ListReads.{one_read, All-read, AllPairs-reads}
+use Rattle.half_edges.proofs.Numbers.{IsSideOf, side_of, is_of_edge, side_is_half_edge}
 
 -- an edge as a segment
 abbrev cut_along : Edge → Segment
@@ -75,10 +45,6 @@ apart_numbers e s t k g h order apart (inr p) (inl q) at =
     IsBefore-irrefl e.low e.high order (sym (ap (λ (d : HalfEdge). d.from) q.1) ∙ sym at ∙ ap (λ (d : HalfEdge). d.from) p.1)
 apart_numbers e s t k g h order apart (inr p) (inr q) at = apart (p.0 ∙ sym q.0)
 
-of_edge : (edges : List Edge) (s k : ℕ) (h : HalfEdge) (e : Edge) → IsSideOf edges s h k e → IsHalfEdgeOf e h
-of_edge edges s k h e (at, inl is) = inl is.1
-of_edge edges s k h e (at, inr is) = inr is.1
-
 -- half-edges with different numbers that leave one vertex lead in different directions
 pub no_one_way : (edges : List Edge) (s t : ℕ) (g h : HalfEdge) → All (λ (e : Edge). IsBefore e.low e.high) edges → AllPairs EdgesMeetAtEndsOnly edges → s ≢ t →
     IsSide edges s g → IsSide edges t h → g.from ≡ h.from → IsSameDirection (heading g) (heading h) → ⊥
@@ -91,10 +57,10 @@ no_one_way edges s t g h order pairs apart is_g is_h at same = of (side_of edges
           let there = subst (λ m. ((t ≡ 2 * m) × (h ≡ forth e)) ⊎ ((t ≡ 2 * m + 1) × (h ≡ twin (forth e)))) (sym one)
           (subst (λ (c : Edge). ((t ≡ 2 * j) × (h ≡ forth c)) ⊎ ((t ≡ 2 * j + 1) × (h ≡ twin (forth c)))) f_e q.1) in
           apart_numbers e s t i g h (All-read (λ (c : Edge). IsBefore c.low c.high) edges i e order p.0) apart p.1 there at
-      | inr (inl less) ↦ apart_ways e f g h (AllPairs-reads EdgesMeetAtEndsOnly edges i j e f pairs less p.0 q.0) (of_edge edges s i g e p) (of_edge edges t j h f q) at same
+      | inr (inl less) ↦ apart_ways e f g h (AllPairs-reads EdgesMeetAtEndsOnly edges i j e f pairs less p.0 q.0) (is_of_edge edges s i g e p) (is_of_edge edges t j h f q) at same
       | inr (inr more) ↦
           let turned : EdgesMeetAtEndsOnly f e = AllPairs-reads EdgesMeetAtEndsOnly edges j i f e pairs more q.0 p.0 in
-          apart_ways e f g h (λ r on_e on_f. let both = turned r on_f on_e in (both.1, both.0)) (of_edge edges s i g e p) (of_edge edges t j h f q) at same
+          apart_ways e f g h (λ r on_e on_f. let both = turned r on_f on_e in (both.1, both.0)) (is_of_edge edges s i g e p) (is_of_edge edges t j h f q) at same
     ]
 
 -- a half-edge leads somewhere

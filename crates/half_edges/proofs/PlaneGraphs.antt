@@ -1,14 +1,13 @@
 -- What holds of every plane graph, from what holds of its lists.
-use Rattle.std.proofs.Common.{◌≡◌, ℕ, List, Some, slice_get, sym, subst}
+use Rattle.std.proofs.Common.{◌≡◌, ℕ, Some, slice_get, sym, subst}
 use Rattle.std.proofs.lemmas.Option.{get_or_from_slice_get}
 use Rattle.nest_base.specs.Plane.{HalfEdge}
 use Rattle.half_edges.specs.Numbers.{IsSide}
 use Rattle.half_edges.specs.Graph.{Graph, IsGraph, origin_of}
-use Rattle.half_edges.specs.Burns.{with_burnt}
 use Rattle.half_edges.specs.PlaneGraphs.{IsPlaneGraph}
 use Rattle.half_edges.proofs.GraphCycles.{origin_within}
-use Rattle.half_edges.proofs.RotationLaws.{graph_is_rotation, parts_divide}
-use Rattle.half_edges.proofs.GraphAlongs.{goes_along, lie_in_parts}
+use Rattle.half_edges.proofs.RotationLaws.{graph_is_rotation, components_divide}
+use Rattle.half_edges.proofs.GraphAlongs.{goes_along, lie_in_components}
 use Rattle.half_edges.proofs.RoundOfGraph.{round_of_graph}
 
 module _ {graph : Graph} (known : IsGraph graph) where
@@ -31,27 +30,7 @@ module _ {graph : Graph} (known : IsGraph graph) where
     below = origin_within known;
     rotation = graph_is_rotation known;
     goes_along = goes_along graph known;
-    are_marks = known.are_parts.are_marks;
-    divides = parts_divide known;
-    parts = lie_in_parts graph known;
+    are_marks = known.are_components.are_marks;
+    divides = components_divide known;
+    components = lie_in_components graph known;
   }
-
--- it does not read which edges are burnt
-pub plane_graph_burnt : (graph : Graph) (burnt : List ℕ) → IsPlaneGraph graph → IsPlaneGraph (with_burnt graph burnt)
-plane_graph_burnt graph burnt is = record {
-  few = is.few;
-  ends_in_order = is.ends_in_order;
-  each_once = is.each_once;
-  within = is.within;
-  apart = is.apart;
-  round = is.round;
-  are_vertices = is.are_vertices;
-  as_many = is.as_many;
-  leaves = is.leaves;
-  below = is.below;
-  rotation = is.rotation;
-  goes_along = is.goes_along;
-  are_marks = is.are_marks;
-  divides = is.divides;
-  parts = is.parts;
-}

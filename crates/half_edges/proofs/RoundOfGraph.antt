@@ -6,31 +6,31 @@ use Rattle.nest_base.specs.declared.places.Edge.{Edge}
 use Rattle.nest_base.specs.Plane.{HalfEdge}
 use Rattle.nest_base.specs.Walks.{Walk, here, on}
 use Rattle.nest_base.proofs.Walks.{Walk-then, Walk-back}
-use Rattle.plate_sides.specs.Sides.{IsHalfEdge, Leaves, IsNextCcw}
+use Rattle.plate_sides.specs.HalfEdges.{IsHalfEdge, Leaves, IsNextCcw}
 use Rattle.plate_sides.specs.Components.{IsMark, IsIn}
 use Rattle.plate_sides.specs.Nesting.{IsRound}
-use Rattle.half_edges.specs.Rings.{IsRing}
+use Rattle.half_edges.specs.Rotations.{IsRotation}
 use Rattle.half_edges.specs.Graph.{Graph, IsGraph}
-use Rattle.half_edges.proofs.Items.{read_below, one_read, read_from_Contains}
+use Rattle.nest_base.proofs.ListReads.{read_below, one_read, read_from_Contains}
 use Rattle.half_edges.proofs.Numbers.{side_from_half_edge}
-use Rattle.half_edges.proofs.NextRound.{AreOrdered, next_in_ring}
-use Rattle.half_edges.proofs.GraphReads.{ring_of}
+use Rattle.half_edges.proofs.NextRound.{AreOrdered, next_in_rotation}
+use Rattle.half_edges.proofs.GraphReads.{rotation_of}
 use Rattle.half_edges.proofs.GraphMarks.{mark_at}
 
-module _ (edges : List Edge) (ordered : AreOrdered edges) (v : Point) (ring : List HalfEdge) (is_ring : IsRing edges v ring) where
-  -- from the first of a ring on each is met
-  from_first : (first : HalfEdge) → slice_get ring 0 ≡ Some first → (k : ℕ) (h : HalfEdge) → slice_get ring k ≡ Some h → Walk (IsNextCcw edges) h first
-  from_first first at_first zero h at = subst (λ (g : HalfEdge). Walk (IsNextCcw edges) g first) (one_read ring 0 first h at_first at) here
+module _ (edges : List Edge) (ordered : AreOrdered edges) (v : Point) (rotation : List HalfEdge) (is_rotation : IsRotation edges v rotation) where
+  -- from the first of a rotation on each is met
+  from_first : (first : HalfEdge) → slice_get rotation 0 ≡ Some first → (k : ℕ) (h : HalfEdge) → slice_get rotation k ≡ Some h → Walk (IsNextCcw edges) h first
+  from_first first at_first zero h at = subst (λ (g : HalfEdge). Walk (IsNextCcw edges) g first) (one_read rotation 0 first h at_first at) here
   from_first first at_first (suc k) h at =
-      let g = read_below ring k (omega (arith, slice_get_within ring (suc k) h at)) in
-      Walk-then (from_first first at_first k g.0 g.1) (on (next_in_ring edges ordered v ring is_ring k (suc k) g.0 h g.1 at (inl (omega arith))) here)
+      let g = read_below rotation k (omega (arith, slice_get_within rotation (suc k) h at)) in
+      Walk-then (from_first first at_first k g.0 g.1) (on (next_in_rotation edges ordered v rotation is_rotation k (suc k) g.0 h g.1 at (inl (omega arith))) here)
 
   -- so from each one to each other
   all_round : (r s : HalfEdge) → Leaves edges v r → Leaves edges v s → Walk (IsNextCcw edges) s r
   all_round r s leaves also =
-      let i = read_from_Contains ring r ((is_ring.are_all r).1 leaves) in
-      let j = read_from_Contains ring s ((is_ring.are_all s).1 also) in
-      let first = read_below ring 0 (omega (arith, slice_get_within ring i.0 r i.1)) in
+      let i = read_from_Contains rotation r ((is_rotation.are_all r).1 leaves) in
+      let j = read_from_Contains rotation s ((is_rotation.are_all s).1 also) in
+      let first = read_below rotation 0 (omega (arith, slice_get_within rotation i.0 r i.1)) in
       Walk-then (Walk-back (from_first first.0 first.1 i.0 r i.1)) (from_first first.0 first.1 j.0 s j.1)
 
 module _ (graph : Graph) (known : IsGraph graph) where
@@ -44,14 +44,14 @@ module _ (graph : Graph) (known : IsGraph graph) where
   turned : (r s : HalfEdge) → IsHalfEdge graph.edges r → IsHalfEdge graph.edges s → r.from ≡ s.from → Walk (IsNextCcw graph.edges) s r
   turned r s is also same =
       let v = left r is in
-      let ring = ring_of known v.0 r.from v.1 in
-      all_round graph.edges known.ends_in_order r.from ring.0 ring.1 r s (is, refl) (also, sym same)
+      let rotation = rotation_of known v.0 r.from v.1 in
+      all_round graph.edges known.ends_in_order r.from rotation.0 rotation.1 r s (is, refl) (also, sym same)
 
   marked : (s : HalfEdge) → IsHalfEdge graph.edges s → (mark : Point) × IsMark graph.edges mark × IsIn graph.edges mark s
   marked s is =
       let v = left s is in
-      let part = known.are_parts.leads v.0 s.from v.1 in
-      (part.1, mark_at known part.0 part.1 part.3, (is, part.4))
+      let component = known.are_components.leads v.0 s.from v.1 in
+      (component.1, mark_at known component.0 component.1 component.3, (is, component.4))
 
   pub round_of_graph : IsRound graph.edges
   round_of_graph = record { turn = turned; marked = marked }

@@ -1,4 +1,4 @@
--- The orders of half-edges round a vertex, and of all, are strict; so a vertex has one ring.
+-- The orders of half-edges round a vertex, and of all, are strict; so a vertex has one rotation.
 use Rattle.std.proofs.Common.{arith, ◌≡◌, inl, inr, pos, ◌<ℤ◌, ◌*ℤ◌, neg_ℤ, List}
 use Rattle.std.proofs.lemmas.Int.{ints, by_lt_z}
 use Rattle.nest_base.specs.declared.places.Point.{Point}
@@ -9,9 +9,9 @@ use Rattle.nest_base.specs.Angles.{IsBeforeFromWest}
 use Rattle.nest_base.proofs.Differences.{mul-neg, neg-mul}
 use Rattle.nest_base.proofs.Signs.{mul_pos, mul_nonneg}
 use Rattle.plate_edges.proofs.Lists.{same_enumeration}
-use Rattle.plate_sides.specs.Sides.{Leaves}
+use Rattle.plate_sides.specs.HalfEdges.{Leaves}
 use Rattle.nest_base.proofs.Orders.{IsMarkedBefore-asym}
-use Rattle.half_edges.specs.Rings.{IsRing, IsBeforeRound, IsBeforeAllRound}
+use Rattle.half_edges.specs.Rotations.{IsRotation, IsBeforeRound, IsBeforeAllRound}
 
 -- two northern directions on one line are one direction
 same_north : (a b : Point) → pos 0 <ℤ a.y → pos 0 <ℤ b.y → cross_product a b ≡ pos 0 → IsSameDirection a b
@@ -58,6 +58,6 @@ pub IsBeforeAllRound-irrefl : (h : HalfEdge) → IsBeforeAllRound h h → ⊥
 IsBeforeAllRound-irrefl h (inl before) = IsMarkedBefore-asym h.from h.from before before
 IsBeforeAllRound-irrefl h (inr (at, before)) = IsBeforeFromWest-asym _ _ before before
 
--- the rings of a vertex are one
-pub one_ring : (edges : List Edge) (v : Point) (ring other : List HalfEdge) → IsRing edges v ring → IsRing edges v other → ring ≡ other
-one_ring edges v ring other is also = same_enumeration IsBeforeRound (Leaves edges v) (λ g h. IsBeforeFromWest-asym _ _) ring other is also
+-- the rotations of a vertex are one
+pub one_rotation : (edges : List Edge) (v : Point) (rotation other : List HalfEdge) → IsRotation edges v rotation → IsRotation edges v other → rotation ≡ other
+one_rotation edges v rotation other is also = same_enumeration IsBeforeRound (Leaves edges v) (λ g h. IsBeforeFromWest-asym _ _) rotation other is also

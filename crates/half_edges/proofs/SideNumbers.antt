@@ -7,12 +7,12 @@ use Rattle.nest_base.specs.declared.places.Edge.{Edge}
 use Rattle.nest_base.specs.Plane.{HalfEdge, twin}
 use Rattle.nest_base.specs.Order.{IsBefore}
 use Rattle.nest_base.proofs.Orders.{IsBefore-irrefl}
-use Rattle.plate_sides.specs.Sides.{forth, IsHalfEdgeOf}
+use Rattle.plate_sides.specs.HalfEdges.{forth}
 use Rattle.plate_sides.proofs.HalfEdges.{one_edge}
 use Rattle.half_edges.specs.Numbers.{IsSide}
-use Rattle.half_edges.proofs.Items.{Contains-from_read, AllPairs-reads}
+use Rattle.nest_base.proofs.ListReads.{Contains-from_read, AllPairs-reads}
 use Rattle.half_edges.proofs.NextRound.{AreOrdered}
-use Rattle.half_edges.proofs.Numbers.{side_of, IsSideOf}
+use Rattle.half_edges.proofs.Numbers.{side_of, IsSideOf, is_of_edge}
 
 -- what has an order that nothing has with itself stands at one place
 pub one_place : {X : Type 0} (R : X → X → Type 0) (xs : List X) (i j : ℕ) (x : X) → ((x : X) → R x x → ⊥) → AllPairs R xs →
@@ -22,11 +22,6 @@ one_place R xs i j x irrefl pairs at_i at_j = elim (cases_order i j) [
   | inr (inl less) ↦ absurd (irrefl x (AllPairs-reads R xs i j x x pairs less at_i at_j))
   | inr (inr more) ↦ absurd (irrefl x (AllPairs-reads R xs j i x x pairs more at_j at_i))
 ]
-
--- a half-edge with a number of an edge belongs to it
-half_of_number : (edges : List Edge) (s k : ℕ) (h : HalfEdge) (e : Edge) → IsSideOf edges s h k e → IsHalfEdgeOf e h
-half_of_number edges s k h e (at, inl (number, is)) = inl is
-half_of_number edges s k h e (at, inr (number, is)) = inr is
 
 -- the two half-edges of an edge differ
 not_its_twin : (e : Edge) → IsBefore e.low e.high → forth e ≡ twin (forth e) → ⊥
@@ -48,7 +43,7 @@ module _ (edges : List Edge) (ordered : AreOrdered edges) (once : AllPairs (λ (
     where
       of : (k : ℕ) × (e : Edge) × IsSideOf edges s h k e → (k : ℕ) × (e : Edge) × IsSideOf edges t h k e → s ≡ t
       of (k, e, is) (j, f, also) =
-          let one = one_edge e f h (ordered_at k e is.0) (ordered_at j f also.0) (half_of_number edges s k h e is) (half_of_number edges t j h f also) in
+          let one = one_edge e f h (ordered_at k e is.0) (ordered_at j f also.0) (is_of_edge edges s k h e is) (is_of_edge edges t j h f also) in
           let same : k ≡ j = one_place (λ (a b : Edge). a ≢ b) edges k j e (λ a other. other refl) once is.0 (also.0 ∙ ap Some (sym one)) in
           one_of_two edges s t k h e (ordered_at k e is.0) is
           (subst (λ (d : Edge). IsSideOf edges t h k d) (sym one) (subst (λ m. IsSideOf edges t h m f) (sym same) also))

@@ -12,17 +12,18 @@ use Rattle.nest_base.specs.declared.places.Edge.{Edge}
 use Rattle.nest_base.specs.Plane.{HalfEdge, heading}
 use Rattle.nest_base.specs.Angles.{angle_cmp}
 use Rattle.nest_base.specs.Order.{IsBefore, IsMarkedBefore}
+use Rattle.nest_base.proofs.Comparisons.{both_equal}
 use Rattle.nest_base.proofs.Angles.{angle_cmp-total, angle_cmp-equal, angle_cmp-greater}
 use Rattle.nest_base.proofs.Directions.{IsSameDirection-sym}
 use Rattle.nest_base.proofs.Points.{same_place}
 use Rattle.plate_edges.specs.Points.{EdgesMeetAtEndsOnly}
-use Rattle.half_edges.specs.declared.ring.Spoke.{Spoke}
+use Rattle.half_edges.specs.declared.rotation.Spoke.{Spoke}
 use Rattle.half_edges.specs.Numbers.{IsSide}
-use Rattle.half_edges.specs.Rings.{IsBeforeAllRound}
+use Rattle.half_edges.specs.Rotations.{IsBeforeAllRound}
 use Rattle.half_edges.specs.Spokes.{spoke_between, spoke_cmp}
 use Rattle.half_edges.proofs.OneWay.{no_one_way, leads_on}
 
--- each part of a spoke is in total order, and so are they together
+-- each field of a spoke is in total order, and so are they together
 pub spoke_cmp-total : IsTotalOrder spoke_cmp
 spoke_cmp-total =
     then_total (then_total (on_total (λ (p : Spoke). p.at.x) int_cmp_total) (back_total (on_total (λ (p : Spoke). p.at.y.0) int_cmp_total)))
@@ -38,11 +39,6 @@ then_greater : (r s : Ordering) → ordering_then r s ≡ Greater → (r ≡ Gre
 then_greater Less s e = absurd (true≢false (ap is_lt e))
 then_greater Equal s e = inr (refl, e)
 then_greater Greater s e = inl refl
-
-then_equal : (r s : Ordering) → ordering_then r s ≡ Equal → (r ≡ Equal) × (s ≡ Equal)
-then_equal Less s e = absurd (true≢false (ap is_lt e))
-then_equal Equal s e = (refl, e)
-then_equal Greater s e = absurd (true≢false (ap is_gt e))
 
 above : (a b : ℤ) → int_cmp a b ≡ Greater → b <ℤ a
 above a b e = by_ranked (a <ℤ b) (a ≡ b) (b <ℤ a) (int_cmp a b) (int_ranked a b (int_cmp a b) refl)
@@ -65,7 +61,7 @@ module _ (edges : List Edge) (order : All (λ (e : Edge). IsBefore e.low e.high)
 
       one_place : ordering_then (int_cmp h.from.x g.from.x) (int_cmp g.from.y h.from.y) ≡ Equal → g.from ≡ h.from
       one_place e =
-          let both = then_equal (int_cmp h.from.x g.from.x) (int_cmp g.from.y h.from.y) e in
+          let both = both_equal (int_cmp h.from.x g.from.x) (int_cmp g.from.y h.from.y) e in
           same_place (sym (exact_signed h.from.x g.from.x both.0)) (exact_signed g.from.y h.from.y both.1)
 
       of_angle : g.from ≡ h.from → (angle_cmp (heading h) (heading g) ≡ Greater) ⊎ ((angle_cmp (heading h) (heading g) ≡ Equal) × (is_lt (nat_cmp t s) ≡ false)) → IsBeforeAllRound g h

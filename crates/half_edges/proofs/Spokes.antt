@@ -12,12 +12,12 @@ use Rattle.nest_base.specs.Plane.{HalfEdge, twin}
 use Rattle.nest_base.specs.Order.{IsBefore}
 use Rattle.nest_base.proofs.Pairs.{AllPairs-permutation}
 use Rattle.plate_edges.specs.Points.{EdgesMeetAtEndsOnly}
-use Rattle.plate_sides.specs.Sides.{forth}
-use Rattle.half_edges.specs.declared.ring.Spoke.{Spoke}
+use Rattle.plate_sides.specs.HalfEdges.{forth}
+use Rattle.half_edges.specs.declared.rotation.Spoke.{Spoke}
 use Rattle.half_edges.specs.Numbers.{IsSide}
-use Rattle.half_edges.specs.Rings.{AreAllRound, IsBeforeAllRound}
+use Rattle.half_edges.specs.Rotations.{AreAllRound, IsBeforeAllRound}
 use Rattle.half_edges.specs.Spokes.{spoke_between, spoke_cmp, AreFirstSpokes, AreSpokes}
-use Rattle.half_edges.proofs.Items.{one_read, Contains-from_read, read_from_Contains, AllPairs-reads, AllPairs-from_reads, read-map, read_of_map, read_kept, read_pushed}
+use Rattle.nest_base.proofs.ListReads.{one_read, Contains-from_read, read_from_Contains, AllPairs-reads, AllPairs-from_reads, read-map, read_of_map, read_kept, read_pushed}
 use Rattle.half_edges.proofs.Numbers.{side_low, side_high, one_side, side_within, side_below}
 use Rattle.half_edges.proofs.SpokeOrder.{spoke_cmp-total, round_from_spokes}
 

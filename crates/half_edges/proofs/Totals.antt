@@ -4,7 +4,7 @@ use Rattle.std.specs.Prelude.{AllPairs, Contains}
 use Rattle.std.proofs.lemmas.Bool.{cases_eq, eq-eqb, ne_eqb}
 use Rattle.std.proofs.lemmas.List.Kept.{AllPairs-cons}
 use Rattle.nest_base.proofs.Lists.{Contains-head, Contains-later, Contains-cases, Contains-none, All-from_contains, AllPairs-none}
-use Rattle.half_edges.specs.Rotation.{same, total}
+use Rattle.rotation_systems.specs.RotationSystem.{same, total}
 use Rattle.half_edges.proofs.Fewer.{fewer-map}
 use Rattle.half_edges.proofs.Cycles.{InCycles}
 

@@ -1,10 +1,11 @@
 -- The numbers of twins.
-use Rattle.std.proofs.Common.{arith, ◌≡◌, ◌≢◌, inl, inr, ℕ, ◌+◌, ◌-◌, ◌*◌, ◌%◌, ◌<◌, List, sym, subst}
+use Rattle.std.proofs.Common.{arith, ◌≡◌, ◌≢◌, inl, inr, ℕ, ◌+◌, ◌-◌, ◌%◌, List, sym, subst}
 use Rattle.std.proofs.lemmas.Bool.{cases_eq}
 use Rattle.std.proofs.lemmas.Bool.Decides.{nat_tests}
 use Rattle.nest_base.specs.declared.places.Edge.{Edge}
 use Rattle.nest_base.specs.Plane.{HalfEdge, twin}
-use Rattle.half_edges.specs.Numbers.{IsSide, twin_number}
+use Rattle.half_edges.specs.Numbers.{IsSide}
+use Rattle.rotation_systems.specs.Twins.{twin_number}
 use Rattle.half_edges.proofs.Numbers.{twin_of_even, twin_of_odd}
 
 twin_number-even : (s : ℕ) → s % 2 ≡ 0 → twin_number s ≡ s + 1
@@ -22,10 +23,3 @@ IsSide-twin edges s h is = elim (cases_eq (s % 2) 0) [
       let ends : (s - 1 + 1) % 2 ≡ 1 = omega arith in
       subst (λ n. IsSide edges n (twin h)) (sym (twin_number-odd s odd)) (twin_of_odd edges (s - 1) h (subst (λ n. IsSide edges n h) before is) ends)
 ]
-
--- the twin of the twin is the half-edge itself
-pub twin_twice : (s : ℕ) → twin_number (twin_number s) ≡ s
-twin_twice s = grind (arith, nat_tests)
-
-pub twin_below : (n s : ℕ) → s < 2 * n → twin_number s < 2 * n
-twin_below n s h = grind (arith, nat_tests)

@@ -1,6 +1,6 @@
 -- Which edges are burnt, and in which order.
 use Rattle.std.specs.Prelude.{◌≢◌, ◌⊎◌, ◌↔◌, ℕ, ◌*◌, ◌/◌, ◌<◌, Bool, false, List, length, slice_index_or, All, AllPairs, Contains, IsTrue}
-use Rattle.half_edges.specs.Numbers.{twin_number}
+use Rattle.rotation_systems.specs.Twins.{twin_number}
 use Rattle.half_edges.specs.Graph.{Graph}
 
 -- a half-edge of the edge of s is among these

@@ -3,14 +3,16 @@ use Rattle.std.specs.Prelude.{◌≡◌, ℕ, ◌+◌, ◌-◌, ◌==◌, if◌t
 use Rattle.nest_base.specs.declared.places.Point.{Point}
 use Rattle.nest_base.specs.declared.places.Edge.{Edge}
 use Rattle.nest_base.specs.Order.{IsBefore}
-use Rattle.nest_base.specs.Range.{IsEdgeWithin}
+use Rattle.nest_base.specs.Range.{IsEdgeWithin, widest}
 use Rattle.plate_edges.specs.Points.{EdgesMeetAtEndsOnly}
 use Rattle.nest_base.specs.Plane.{HalfEdge}
+use Rattle.nest_base.specs.Limits.{most_edges}
 use Rattle.plate_sides.specs.Components.{SameComponent, AreMarks, IsIn}
 use Rattle.plate_sides.specs.Links.{IsAlong}
-use Rattle.half_edges.specs.Numbers.{half_edges_of, twin_number, IsSide}
+use Rattle.half_edges.specs.Numbers.{half_edges_of, IsSide}
+use Rattle.rotation_systems.specs.Twins.{twin_number}
 use Rattle.half_edges.specs.Layouts.{IsLayout, ArePositions}
-use Rattle.half_edges.specs.Rotation.{Rotation, along}
+use Rattle.rotation_systems.specs.RotationSystem.{RotationSystem, along}
 
 pub record Graph : Type 0 where
   pub edges : List Edge
@@ -25,7 +27,7 @@ pub record Graph : Type 0 where
   pub all : List ℕ
   pub starts : List ℕ
   -- by number of a vertex: the number of its component
-  pub parts : List ℕ
+  pub components : List ℕ
   -- the half-edges whose edges were burnt, in the order of burning
   pub burnt : List ℕ
 
@@ -40,22 +42,22 @@ edges_between vertices (u ∷ []) = []
 edges_between vertices (u ∷ v ∷ origins) = record { low = vertex_at vertices u; high = vertex_at vertices v } ∷ edges_between vertices origins
 
 -- by number of a vertex its component: the place among the marks of the mark vertex to which edges lead
-pub record AreParts (edges : List Edge) (vertices : List Point) (parts : List ℕ) (marks : List Point) : Type 0 where
+pub record AreComponents (edges : List Edge) (vertices : List Point) (components : List ℕ) (marks : List Point) : Type 0 where
   pub are_marks : AreMarks edges marks
-  pub as_many : length parts ≡ length vertices
+  pub as_many : length components ≡ length vertices
   pub leads : (v : ℕ) (p : Point) → slice_get vertices v ≡ Some p →
-      (c : ℕ) × (mark : Point) × (slice_get parts v ≡ Some c) × (slice_get marks c ≡ Some mark) × SameComponent edges p mark
+      (c : ℕ) × (mark : Point) × (slice_get components v ≡ Some c) × (slice_get marks c ≡ Some mark) × SameComponent edges p mark
 
 -- what holds of the lists of a graph
 pub record IsGraph (graph : Graph) : Type 0 where
-  pub few : length graph.edges ≤ 2000000
+  pub few : length graph.edges ≤ most_edges
   pub ends_in_order : All (λ (e : Edge). IsBefore e.low e.high) graph.edges
   pub each_once : AllPairs (λ (e f : Edge). e ≢ f) graph.edges
-  pub within : All (IsEdgeWithin 2000000000) graph.edges
+  pub within : All (IsEdgeWithin widest) graph.edges
   pub apart : AllPairs EdgesMeetAtEndsOnly graph.edges
   pub layout : IsLayout graph.edges graph.vertices graph.origins graph.all graph.starts
   pub are_positions : ArePositions graph.edges graph.positions
-  pub are_parts : AreParts graph.edges graph.vertices graph.parts graph.marks
+  pub are_components : AreComponents graph.edges graph.vertices graph.components graph.marks
 
 -- by numbers: the vertex that a half-edge leaves, its place there, and the component of a vertex
 abbrev pub origin_of : Graph → ℕ → ℕ
@@ -64,8 +66,8 @@ origin_of graph s = slice_index graph.origins s
 abbrev pub place_of : Graph → ℕ → ℕ
 place_of graph s = slice_index graph.positions s
 
-abbrev pub part_of : Graph → ℕ → ℕ
-part_of graph v = slice_index graph.parts v
+abbrev pub component_of : Graph → ℕ → ℕ
+component_of graph v = slice_index graph.components v
 
 -- how many half-edges leave a vertex, and the one at a place of its rotation
 abbrev pub degree_of : Graph → ℕ → ℕ
@@ -89,16 +91,16 @@ abbrev pub cw_of : Graph → ℕ → ℕ
 cw_of graph s = side_in graph (origin_of graph s) (place_before (degree_of graph (origin_of graph s)) (place_of graph s))
 
 -- the rotations of a graph, by numbers alone
-abbrev pub rotation_of : Graph → Rotation
-rotation_of graph = record { sides = length (half_edges_of graph.edges); twin = twin_number; ccw = ccw_of graph; cw = cw_of graph; from = origin_of graph }
+abbrev pub rotations_of : Graph → RotationSystem
+rotations_of graph = record { sides = length (half_edges_of graph.edges); twin = twin_number; ccw = ccw_of graph; cw = cw_of graph; from = origin_of graph }
 
 -- by number half-edges go along as they do on the plate
 abbrev pub GoesAlong : Graph → Type 0
 GoesAlong graph =
-    (s : ℕ) (h : HalfEdge) → IsSide graph.edges s h → (t : HalfEdge) × IsSide graph.edges (along (rotation_of graph) s) t × IsAlong graph.edges h t
+    (s : ℕ) (h : HalfEdge) → IsSide graph.edges s h → (t : HalfEdge) × IsSide graph.edges (along (rotations_of graph) s) t × IsAlong graph.edges h t
 
 -- each half-edge lies in the component that has the number of the vertex which it leaves
-abbrev pub LieInParts : Graph → Type 0
-LieInParts graph =
+abbrev pub LieInComponents : Graph → Type 0
+LieInComponents graph =
     (s : ℕ) (h : HalfEdge) → IsSide graph.edges s h →
-    (mark : Point) × (slice_get graph.marks (part_of graph (origin_of graph s)) ≡ Some mark) × IsIn graph.edges mark h
+    (mark : Point) × (slice_get graph.marks (component_of graph (origin_of graph s)) ≡ Some mark) × IsIn graph.edges mark h

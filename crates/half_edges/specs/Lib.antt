@@ -1,8 +1,7 @@
 pub mod Numbers
-pub mod Rings
+pub mod Rotations
 pub mod Layouts
 pub mod Runs
-pub mod Rotation
 pub mod Marks
 pub mod Spokes
 pub mod Graph

@@ -1,8 +1,8 @@
 -- Half-edges by number.
-use Rattle.std.specs.Prelude.{◌≡◌, ℕ, ◌+◌, ◌-◌, ◌%◌, ◌==◌, if◌then◌else◌, List, [], ◌∷◌, slice_get, Some}
+use Rattle.std.specs.Prelude.{◌≡◌, ℕ, List, [], ◌∷◌, slice_get, Some}
 use Rattle.nest_base.specs.declared.places.Edge.{Edge}
 use Rattle.nest_base.specs.Plane.{HalfEdge, twin}
-use Rattle.plate_sides.specs.Sides.{forth}
+use Rattle.plate_sides.specs.HalfEdges.{forth}
 
 -- two for each edge: from its low end to its high one, and back
 abbrev pub half_edges_of : List Edge → List HalfEdge
@@ -12,7 +12,3 @@ half_edges_of (e ∷ edges) = forth e ∷ twin (forth e) ∷ half_edges_of edges
 -- h is the half-edge with this number
 abbrev pub IsSide : List Edge → ℕ → HalfEdge → Type 0
 IsSide edges s h = slice_get (half_edges_of edges) s ≡ Some h
-
--- the number of the other half-edge of the edge of s
-abbrev pub twin_number : ℕ → ℕ
-twin_number s = if s % 2 == 0 then s + 1 else s - 1

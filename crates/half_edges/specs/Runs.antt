@@ -31,8 +31,8 @@ pub record AreAllRuns (at : ℕ → Point) (n : ℕ) (vertices : List Point) (st
   pub ends : slice_get starts (length vertices) ≡ Some n
   pub stands : (j : ℕ) → j < n → (v : ℕ) × IsInRun starts j v × (slice_get vertices v ≡ Some (at j))
 
--- in a list by number of half-edges a value is written for each of the first n of a ring, and nothing else
-pub record NumbersRing {X : Type 0} (value : ℕ → X) (ring : List Side) (n : ℕ) (old new : List X) : Type 0 where
+-- in a list by number of half-edges a value is written for each of the first n of a rotation, and nothing else
+pub record NumbersRotation {X : Type 0} (value : ℕ → X) (rotation : List Side) (n : ℕ) (old new : List X) : Type 0 where
   pub as_long : length new ≡ length old
-  pub written : (k : ℕ) (s : Side) → k < n → slice_get ring k ≡ Some s → slice_get new s.0 ≡ Some (value k)
-  pub kept : (t : ℕ) → ((k : ℕ) (s : Side) → k < n → slice_get ring k ≡ Some s → s.0 ≢ t) → slice_get new t ≡ slice_get old t
+  pub written : (k : ℕ) (s : Side) → k < n → slice_get rotation k ≡ Some s → slice_get new s.0 ≡ Some (value k)
+  pub kept : (t : ℕ) → ((k : ℕ) (s : Side) → k < n → slice_get rotation k ≡ Some s → s.0 ≢ t) → slice_get new t ≡ slice_get old t

@@ -6,7 +6,7 @@ use Rattle.nest_base.specs.declared.places.Point.{Point}
 use Rattle.nest_base.specs.declared.places.Edge.{Edge}
 use Rattle.nest_base.specs.Plane.{HalfEdge, direction}
 use Rattle.nest_base.specs.Angles.{angle_cmp}
-use Rattle.half_edges.specs.declared.ring.Spoke.{Spoke}
+use Rattle.half_edges.specs.declared.rotation.Spoke.{Spoke}
 use Rattle.half_edges.specs.Marks.{mark_order, mark_cmp}
 use Rattle.half_edges.specs.Numbers.{IsSide}
 

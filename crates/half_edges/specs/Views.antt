@@ -7,12 +7,12 @@ abbrev pub graph_view : Inside → Graph
 graph_view g = record {
   edges = edges_between g.layout.places.items (map (λ v. v.0) g.layout.origins.items);
   vertices = g.layout.places.items;
-  marks = g.parts.marks.items;
+  marks = g.components.marks.items;
   origins = map (λ v. v.0) g.layout.origins.items;
   positions = g.layout.positions.items;
   all = map (λ s. s.0) g.all.items;
   starts = g.layout.starts.items;
-  parts = map (λ c. c.0) g.parts.of_vertex.items;
+  components = map (λ c. c.0) g.components.of_vertex.items;
   burnt = g.burns.burnt;
 }
 

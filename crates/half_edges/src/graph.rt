@@ -1,41 +1,43 @@
 //! The plane graph, and what is read of it.
 ghost use Rattle.std.specs.Prelude.{◌≡◌, ◌≢◌, ◌≤◌, ◌<◌, [], ◌∷◌, ◌++◌, length, take, slice_get, Some, All, AllPairs, Contains, List, IfOk, IfSome, IfNone, IsTrue, ◌↔◌};
 ghost use Rattle.nest_base.specs.Order.{IsBefore, IsMarkedBefore};
-ghost use Rattle.nest_base.specs.Range.{IsEdgeWithin};
+ghost use Rattle.nest_base.specs.Range.{IsEdgeWithin, widest};
 ghost use Rattle.nest_base.specs.Plane.{HalfEdge, twin};
+ghost use Rattle.nest_base.specs.Limits.{most_edges, most_half_edges};
 ghost use Rattle.plate_edges.specs.Points.{EdgesMeetAtEndsOnly};
-ghost use Rattle.plate_sides.specs.Sides.{IsVertex, IsHalfEdge, IsNextCcw, IsNextCw};
+ghost use Rattle.plate_sides.specs.HalfEdges.{IsVertex, IsHalfEdge, IsNextCcw, IsNextCw};
 ghost use Rattle.plate_sides.specs.Components.{SameComponent, AreMarks};
 ghost use Rattle.plate_sides.specs.Links.{IsAlong};
 ghost use Rattle.plate_sides.specs.Nesting.{IsRound};
-ghost use Rattle.plate_covers.specs.Odd.{HasDegree};
-ghost use Rattle.half_edges.specs.Numbers.{half_edges_of, IsSide, twin_number};
-ghost use Rattle.half_edges.specs.Rings.{IsRing};
+ghost use Rattle.plate_sides.specs.Odd.{HasDegree};
+ghost use Rattle.half_edges.specs.Numbers.{half_edges_of, IsSide};
+ghost use Rattle.rotation_systems.specs.Twins.{twin_number};
+ghost use Rattle.half_edges.specs.Rotations.{IsRotation};
 ghost use Rattle.half_edges.specs.Layouts.{AreVertices};
-ghost use Rattle.half_edges.specs.Rotation.{to as end_in, along as along_in, degree as degree_in};
-ghost use Rattle.half_edges.specs.Graph.{rotation_of, origin_of, place_of, part_of, degree_of, side_in, ccw_of, cw_of};
+ghost use Rattle.rotation_systems.specs.RotationSystem.{to as end_in, along as along_in, degree as degree_in};
+ghost use Rattle.half_edges.specs.Graph.{rotations_of, origin_of, place_of, component_of, degree_of, side_in, ccw_of, cw_of};
 ghost use Rattle.half_edges.specs.PlaneGraphs.{IsPlaneGraph};
 ghost use Rattle.half_edges.specs.Burns.{AreOfTwoEdges, IsBurnt, with_burnt};
 
 use crate::burns::Burns;
+use crate::components::{Components, components_of};
 use crate::layout::{Layout, layout_of};
 use crate::mark_order::MarkOrder;
-use crate::parts::{Parts, parts_of};
-use crate::ring::all_round;
+use crate::rotation::all_round;
 use crate::sides::twin_of;
 use nest_base::{Component, Edges, OutOfMemory, Point, Side, VertexId};
 use std::alloc::Global;
 use std::marker::Model;
 
 /// The graph of the edges of a drawing. Contracts see its edges in their order, its vertices in the order of mark vertices, and the
-/// mark vertex of each component; the lists of numbers in which its half-edges stand, from which `rotation_of` makes a rotation
+/// mark vertex of each component; the lists of numbers in which its half-edges stand, from which `rotations_of` makes a rotation
 /// system; and the half-edges whose edges were burnt, in order.
 #[derive(Drop)]
 pub struct PlaneGraph {
     layout: Layout,
     /// All half-edges, vertex by vertex, and round each counterclockwise from west.
     all: Vec<Side>,
-    parts: Parts,
+    components: Components,
     burns: Burns,
 }
 
@@ -55,8 +57,8 @@ impl PlaneGraph {
     ///
     /// Takes **O(n log n)** for n edges. `OutOfMemory` comes for want of memory alone.
     pub fn build(alloc: Global, edges: &Edges) -> Result<PlaneGraph, OutOfMemory>
-        requires few { length edges.now ≤ 2000000 }
-        requires within { All (IsEdgeWithin 2000000000) edges.now }
+        requires few { length edges.now ≤ most_edges }
+        requires within { All (IsEdgeWithin widest) edges.now }
         requires ends_in_order { All (λ e. IsBefore e.low e.high) edges.now }
         requires apart { AllPairs EdgesMeetAtEndsOnly edges.now }
         ensures edges { IfOk result (λ graph. graph.edges ≡ edges.now) }
@@ -66,12 +68,12 @@ impl PlaneGraph {
     {
         let all = all_round(alloc, edges.as_slice())?;
         let layout = layout_of(alloc, edges.as_slice(), &all)?;
-        let parts = parts_of(alloc, &layout, &all)?;
+        let components = components_of(alloc, &layout, &all)?;
         let burns = Burns::none(alloc, edges.as_slice().len())?;
         Ok(PlaneGraph {
             layout,
             all,
-            parts,
+            components,
             burns,
         })
     }
@@ -103,10 +105,11 @@ impl PlaneGraph {
     /// How many components there are.
     pub fn component_count(&self) -> u32
         ensures count { result ≡ length self.now.marks }
-        ensures few { length self.now.marks ≤ 4000000 }
+        ensures few { length self.now.marks ≤ most_half_edges }
         ensures marks { AreMarks self.now.edges self.now.marks }
+        ensures plane_graph { IsPlaneGraph self.now }
     {
-        self.parts.marks.len() as u32
+        self.components.marks.len() as u32
     }
 
     /// The same edge followed the other way.
@@ -133,7 +136,7 @@ impl PlaneGraph {
     pub fn to(&self, s: Side) -> VertexId
         requires { s.0 < length (half_edges_of self.now.edges) }
         ensures vertex { (h : HalfEdge) → IsSide self.now.edges s.0 h → slice_get self.now.vertices result.0 ≡ Some h.to }
-        ensures number { result.0 ≡ end_in (rotation_of self.now) s.0 }
+        ensures number { result.0 ≡ end_in (rotations_of self.now) s.0 }
         ensures within { result.0 < length self.now.vertices }
     {
         self.from(self.twin(s))
@@ -150,11 +153,11 @@ impl PlaneGraph {
     /// How many edges end at a vertex, which is how many half-edges leave it.
     pub fn degree(&self, v: VertexId) -> u32
         requires { v.0 < length self.now.vertices }
-        ensures count { (p : Point) → slice_get self.now.vertices v.0 ≡ Some p → (ring : List HalfEdge) → IsRing self.now.edges p ring → result ≡ length ring }
-        ensures ring { (p : Point) → slice_get self.now.vertices v.0 ≡ Some p → (ring : List HalfEdge) × IsRing self.now.edges p ring }
+        ensures count { (p : Point) → slice_get self.now.vertices v.0 ≡ Some p → (rotation : List HalfEdge) → IsRotation self.now.edges p rotation → result ≡ length rotation }
+        ensures rotation { (p : Point) → slice_get self.now.vertices v.0 ≡ Some p → (rotation : List HalfEdge) × IsRotation self.now.edges p rotation }
         ensures edges { (p : Point) → slice_get self.now.vertices v.0 ≡ Some p → HasDegree self.now.edges p result }
         ensures number { result ≡ degree_of self.now v.0 }
-        ensures sides { result ≡ degree_in (rotation_of self.now) v.0 }
+        ensures sides { result ≡ degree_in (rotations_of self.now) v.0 }
     {
         let v = v.0 as usize;
         self.layout.starts[v + 1] - self.layout.starts[v]
@@ -163,9 +166,9 @@ impl PlaneGraph {
     /// The half-edge at place `k` of the rotation of a vertex.
     fn side_at(&self, v: VertexId, k: u32) -> Side
         requires vertex { v.0 < length self.now.vertices }
-        requires in_ring { (p : Point) → slice_get self.now.vertices v.0 ≡ Some p → (ring : List HalfEdge) → IsRing self.now.edges p ring → k < length ring }
-        ensures side { (p : Point) → slice_get self.now.vertices v.0 ≡ Some p → (ring : List HalfEdge) → IsRing self.now.edges p ring →
-            (h : HalfEdge) × (slice_get ring k ≡ Some h) × IsSide self.now.edges result.0 h }
+        requires in_rotation { (p : Point) → slice_get self.now.vertices v.0 ≡ Some p → (rotation : List HalfEdge) → IsRotation self.now.edges p rotation → k < length rotation }
+        ensures side { (p : Point) → slice_get self.now.vertices v.0 ≡ Some p → (rotation : List HalfEdge) → IsRotation self.now.edges p rotation →
+            (h : HalfEdge) × (slice_get rotation k ≡ Some h) × IsSide self.now.edges result.0 h }
         ensures number { result.0 ≡ side_in self.now v.0 k }
         ensures within { result.0 < length (half_edges_of self.now.edges) }
         ensures ends_in_order { All (λ e. IsBefore e.low e.high) self.now.edges }
@@ -176,9 +179,9 @@ impl PlaneGraph {
     /// The half-edge that leaves a vertex and is met first, counterclockwise from west.
     pub fn first_side(&self, v: VertexId) -> Side
         requires { v.0 < length self.now.vertices }
-        ensures first { (p : Point) → slice_get self.now.vertices v.0 ≡ Some p → (ring : List HalfEdge) → IsRing self.now.edges p ring →
-            (h : HalfEdge) × (slice_get ring 0 ≡ Some h) × IsSide self.now.edges result.0 h }
-        ensures ring { (p : Point) → slice_get self.now.vertices v.0 ≡ Some p → (ring : List HalfEdge) × IsRing self.now.edges p ring }
+        ensures first { (p : Point) → slice_get self.now.vertices v.0 ≡ Some p → (rotation : List HalfEdge) → IsRotation self.now.edges p rotation →
+            (h : HalfEdge) × (slice_get rotation 0 ≡ Some h) × IsSide self.now.edges result.0 h }
+        ensures rotation { (p : Point) → slice_get self.now.vertices v.0 ≡ Some p → (rotation : List HalfEdge) × IsRotation self.now.edges p rotation }
         ensures ends_in_order { All (λ e. IsBefore e.low e.high) self.now.edges }
         ensures within { result.0 < length (half_edges_of self.now.edges) }
         ensures leaves { origin_of self.now result.0 ≡ v.0 }
@@ -189,8 +192,8 @@ impl PlaneGraph {
     /// The place of a half-edge in the rotation of its vertex, from 0.
     pub fn position(&self, s: Side) -> u32
         requires { s.0 < length (half_edges_of self.now.edges) }
-        ensures place { (h : HalfEdge) → IsSide self.now.edges s.0 h → (ring : List HalfEdge) → IsRing self.now.edges h.from ring →
-            slice_get ring result ≡ Some h }
+        ensures place { (h : HalfEdge) → IsSide self.now.edges s.0 h → (rotation : List HalfEdge) → IsRotation self.now.edges h.from rotation →
+            slice_get rotation result ≡ Some h }
         ensures number { result ≡ place_of self.now s.0 }
     {
         self.layout.positions[s.0 as usize]
@@ -228,7 +231,7 @@ impl PlaneGraph {
     pub fn along(&self, s: Side) -> Side
         requires { s.0 < length (half_edges_of self.now.edges) }
         ensures next { (h : HalfEdge) → IsSide self.now.edges s.0 h → (t : HalfEdge) × IsSide self.now.edges result.0 t × IsAlong self.now.edges h t }
-        ensures number { result.0 ≡ along_in (rotation_of self.now) s.0 }
+        ensures number { result.0 ≡ along_in (rotations_of self.now) s.0 }
         ensures within { result.0 < length (half_edges_of self.now.edges) }
     {
         self.cw(self.twin(s))
@@ -239,20 +242,20 @@ impl PlaneGraph {
         requires { v.0 < length self.now.vertices }
         ensures component { (p : Point) → slice_get self.now.vertices v.0 ≡ Some p →
             (mark : Point) × (slice_get self.now.marks result.0 ≡ Some mark) × SameComponent self.now.edges p mark }
-        ensures number { result.0 ≡ part_of self.now v.0 }
+        ensures number { result.0 ≡ component_of self.now v.0 }
         ensures within { result.0 < length self.now.marks }
     {
-        self.parts.of_vertex[v.0 as usize]
+        self.components.of_vertex[v.0 as usize]
     }
 
     /// The mark vertex of a component: the one that comes first of all its vertices.
     pub fn mark_vertex(&self, c: Component) -> VertexId
         requires { c.0 < length self.now.marks }
         ensures mark { slice_get self.now.vertices result.0 ≡ slice_get self.now.marks c.0 }
-        ensures component { part_of self.now result.0 ≡ c.0 }
+        ensures component { component_of self.now result.0 ≡ c.0 }
         ensures within { result.0 < length self.now.vertices }
     {
-        let v = place_among(&self.layout.places, self.parts.marks[c.0 as usize]).unwrap();
+        let v = place_among(&self.layout.places, self.components.marks[c.0 as usize]).unwrap();
         VertexId(v as u32)
     }
 

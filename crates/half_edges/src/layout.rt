@@ -1,9 +1,10 @@
 //! Where the vertices of a graph, and the half-edges round each, stand in lists.
 ghost use Rattle.std.specs.Prelude.{◌≡◌, ◌≢◌, ◌≤◌, ◌<◌, ◌-◌, ◌^◌, false, length, map, slice_get, All, AllPairs, IfOk, IfSome, IsTrue};
 ghost use Rattle.nest_base.specs.Plane.{HalfEdge};
+ghost use Rattle.nest_base.specs.Limits.{most_edges};
 ghost use Rattle.half_edges.specs.Numbers.{half_edges_of, IsSide};
-ghost use Rattle.half_edges.specs.Rings.{AreAllRound};
-ghost use Rattle.half_edges.specs.Runs.{from_at, AreAllRuns, NumbersRing};
+ghost use Rattle.half_edges.specs.Rotations.{AreAllRound};
+ghost use Rattle.half_edges.specs.Runs.{from_at, AreAllRuns, NumbersRotation};
 ghost use Rattle.half_edges.specs.Layouts.{IsLayout, ArePositions};
 
 use nest_base::{Edge, OutOfMemory, Point, Side, VertexId};
@@ -49,7 +50,7 @@ fn is_last(places: &[Point], p: Point) -> bool
 
 /// The half-edges of a vertex are neighbours, so a vertex is met where the place differs from the one before.
 fn runs_of(alloc: Global, edges: &[Edge], all: &[Side]) -> Result<Runs, OutOfMemory>
-    requires few { length edges.now ≤ 2000000 }
+    requires few { length edges.now ≤ most_edges }
     requires all_round { AreAllRound edges.now (map (λ s. s.0) all.now) }
     ensures { IfOk result (λ runs. AreAllRuns (from_at edges.now (map (λ s. s.0) all.now)) (length all.now) runs.places.items runs.starts.items) }
 {
@@ -66,16 +67,16 @@ fn runs_of(alloc: Global, edges: &[Edge], all: &[Side]) -> Result<Runs, OutOfMem
     Ok(Runs { places, starts })
 }
 
-/// Numbers the half-edges of a vertex: that at place k of its ring has position k.
-fn number_ring(ring: &[Side], v: VertexId, origins: &mut [VertexId], positions: &mut [u32])
-    requires short { length ring.now < 2 ^ 32 }
-    requires origins_long { All (λ s. s.0 < length origins.old) ring.now }
-    requires positions_long { All (λ s. s.0 < length positions.old) ring.now }
-    requires each_once { AllPairs (λ s t. s.0 ≢ t.0) ring.now }
-    ensures origins { NumbersRing (λ k. v) ring.now (length ring.now) origins.old origins.new }
-    ensures positions { NumbersRing (λ k. k) ring.now (length ring.now) positions.old positions.new }
+/// Numbers the half-edges of a vertex: that at place k of its rotation has position k.
+fn number_rotation(rotation: &[Side], v: VertexId, origins: &mut [VertexId], positions: &mut [u32])
+    requires short { length rotation.now < 2 ^ 32 }
+    requires origins_long { All (λ s. s.0 < length origins.old) rotation.now }
+    requires positions_long { All (λ s. s.0 < length positions.old) rotation.now }
+    requires each_once { AllPairs (λ s t. s.0 ≢ t.0) rotation.now }
+    ensures origins { NumbersRotation (λ k. v) rotation.now (length rotation.now) origins.old origins.new }
+    ensures positions { NumbersRotation (λ k. k) rotation.now (length rotation.now) positions.old positions.new }
 {
-    for (k, side) in ring.iter().enumerate() {
+    for (k, side) in rotation.iter().enumerate() {
         origins[side.0 as usize] = v;
         positions[side.0 as usize] = k as u32;
     }
@@ -85,7 +86,7 @@ fn number_ring(ring: &[Side], v: VertexId, origins: &mut [VertexId], positions: 
 ///
 /// Takes **O(n)** for n edges, and memory for the lists.
 pub fn layout_of(alloc: Global, edges: &[Edge], all: &[Side]) -> Result<Layout, OutOfMemory>
-    requires few { length edges.now ≤ 2000000 }
+    requires few { length edges.now ≤ most_edges }
     requires all_round { AreAllRound edges.now (map (λ s. s.0) all.now) }
     ensures layout { IfOk result (λ l. IsLayout edges.now l.places.items (map (λ v. v.0) l.origins.items) (map (λ s. s.0) all.now) l.starts.items) }
     ensures positions { IfOk result (λ l. ArePositions edges.now l.positions.items) }
@@ -94,8 +95,8 @@ pub fn layout_of(alloc: Global, edges: &[Edge], all: &[Side]) -> Result<Layout, 
     let mut origins = vec![in alloc; VertexId(0); 2 * edges.len()]?;
     let mut positions = vec![in alloc; 0; 2 * edges.len()]?;
     for v in 0..runs.places.len() {
-        let ring = &all[runs.starts[v] as usize..runs.starts[v + 1] as usize];
-        number_ring(ring, VertexId(v as u32), &mut origins, &mut positions);
+        let rotation = &all[runs.starts[v] as usize..runs.starts[v + 1] as usize];
+        number_rotation(rotation, VertexId(v as u32), &mut origins, &mut positions);
     }
     Ok(Layout {
         places: runs.places,

@@ -11,20 +11,12 @@
 //! It stands on the order of directions of `nest_base`, and on the definitions of `plate_sides`.
 #![tactic(auto)]
 
-#[cfg(test)]
-mod burn_tests;
 mod burns;
-#[cfg(test)]
-mod component_tests;
+mod components;
 pub mod graph;
 mod layout;
 mod mark_order;
-mod parts;
-mod ring;
-#[cfg(test)]
-mod rotation_tests;
-#[cfg(test)]
-mod samples;
+mod rotation;
 mod sides;
 
 pub use graph::PlaneGraph;

@@ -1,6 +1,6 @@
 //! Half-edges by number.
 ghost use Rattle.std.specs.Prelude.{◌≡◌};
-ghost use Rattle.half_edges.specs.Numbers.{twin_number};
+ghost use Rattle.rotation_systems.specs.Twins.{twin_number};
 
 use nest_base::Side;
 

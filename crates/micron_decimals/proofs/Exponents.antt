@@ -6,10 +6,9 @@ use Rattle.std.specs.Ordering.{int_eq}
 use Rattle.std.specs.Str.Parse.{digits_value}
 use Rattle.std.proofs.lemmas.Bool.{cases_lt}
 use Rattle.std.proofs.lemmas.Int.{ints}
-use Rattle.std.proofs.lemmas.List.{take_all, drop_all, get_or_past}
-use Rattle.std.proofs.lemmas.List.{length-append}
+use Rattle.std.proofs.lemmas.List.{take_all, drop_all, get_or_past, length-append}
 use Rattle.micron_decimals.specs.Decimals.{signed, Decimal, nearest_micron, nearest_size, is_exactly, scale}
-use Rattle.micron_decimals.specs.Places.{far, capped, clamped, front_value, is_zero, rounded_at, read_as, place_of, digits_of, IsReadable}
+use Rattle.micron_decimals.specs.Places.{far, capped, clamped, front_value, is_zero, rounded_at, with_clamped_power, point_place, digits_of, IsReadable}
 use Rattle.micron_decimals.proofs.Capped.{zeros_enough}
 use Rattle.micron_decimals.proofs.Rounding.{rounded_is}
 use Rattle.micron_decimals.proofs.Exactness.{not_before_first, number_at, number_is}
@@ -60,18 +59,18 @@ rounded_by_clamped w k (negsuc n) ds a b h = elim (cases_lt far (suc n)) [
 count_below : (d : Decimal) → length d.part < 2 ^ 64 → length (digits_of d) < length d.whole + 2 ^ 64
 count_below d h = omega (arith, length-append d.whole d.part, h)
 
-at_scale : (d : Decimal) (k : ℕ) → scale d +ℤ pos k ≡ place_of d (pos k) -ℤ pos (length (digits_of d))
+at_scale : (d : Decimal) (k : ℕ) → scale d +ℤ pos k ≡ point_place d (pos k) -ℤ pos (length (digits_of d))
 at_scale d k = omega (arith, ints, length-append d.whole d.part)
 
-at_read : (d : Decimal) → IsReadable (read_as d) → signed d.negative (capped (rounded_at (place_of (read_as d) (pos 3)) (digits_of d))) ≡ clamped (nearest_micron d)
+at_read : (d : Decimal) → IsReadable (with_clamped_power d) → signed d.negative (capped (rounded_at (point_place (with_clamped_power d) (pos 3)) (digits_of d))) ≡ clamped (nearest_micron d)
 at_read d r =
     ap (λ n. signed d.negative n) (rounded_by_clamped (length d.whole) 3 d.power (digits_of d) r.whole (count_below d r.part) (omega arith)
-    ∙ ap capped (sym (rounded_is (place_of d (pos 3)) (digits_of d) (scale d +ℤ pos 3) r.digits (at_scale d 3))))
+    ∙ ap capped (sym (rounded_is (point_place d (pos 3)) (digits_of d) (scale d +ℤ pos 3) r.digits (at_scale d 3))))
     ∙ sym (clamped-signed d.negative (nearest_size d))
 
 -- the nearest micrometre of each decimal that is read as p
-pub micron_is : (d p : Decimal) → IsReadable p → read_as d ≡ p → signed p.negative (capped (rounded_at (place_of p (pos 3)) (digits_of p))) ≡ clamped (nearest_micron d)
-micron_is d p readable e = subst (λ (p : Decimal). IsReadable p → signed p.negative (capped (rounded_at (place_of p (pos 3)) (digits_of p))) ≡ clamped (nearest_micron d)) e (at_read d) readable
+pub micron_is : (d p : Decimal) → IsReadable p → with_clamped_power d ≡ p → signed p.negative (capped (rounded_at (point_place p (pos 3)) (digits_of p))) ≡ clamped (nearest_micron d)
+micron_is d p readable e = subst (λ (p : Decimal). IsReadable p → signed p.negative (capped (rounded_at (point_place p (pos 3)) (digits_of p))) ≡ clamped (nearest_micron d)) e (at_read d) readable
 
 number_beyond : (negative : Bool) (p : ℕ) (ds : List ℕ) (whole : ℤ) → length ds + 20 ≤ p → number_at (pos p) negative ds whole ≡ int_eq (signed negative (capped (digits_value 10 ds * far))) whole
 number_beyond negative p ds whole h =
@@ -94,17 +93,17 @@ number_by_clamped negative w (negsuc n) ds whole a b = elim (cases_lt far (suc n
   | inr least ↦ ap (λ z. number_at ((pos w +ℤ z) +ℤ pos 0) negative ds whole) (clamped_same (negsuc n) least)
 ]
 
-exactly_at_read : (d : Decimal) (whole : ℤ) → IsReadable (read_as d) → unsigned_abs whole < far → number_at (place_of (read_as d) (pos 0)) d.negative (digits_of d) whole ≡ is_exactly d whole
+exactly_at_read : (d : Decimal) (whole : ℤ) → IsReadable (with_clamped_power d) → unsigned_abs whole < far → number_at (point_place (with_clamped_power d) (pos 0)) d.negative (digits_of d) whole ≡ is_exactly d whole
 exactly_at_read d whole r h =
     number_by_clamped d.negative (length d.whole) d.power (digits_of d) whole r.whole (count_below d r.part)
-    ∙ sym (number_is d.negative (place_of d (pos 0)) (digits_of d) (scale d +ℤ pos 0) whole r.digits (at_scale d 0) h)
+    ∙ sym (number_is d.negative (point_place d (pos 0)) (digits_of d) (scale d +ℤ pos 0) whole r.digits (at_scale d 0) h)
 
 -- whether each decimal that is read as p is exactly this whole number
-pub exactly_is : (d p : Decimal) (whole : ℤ) → IsReadable p → read_as d ≡ p → unsigned_abs whole < far → number_at (place_of p (pos 0)) p.negative (digits_of p) whole ≡ is_exactly d whole
+pub exactly_is : (d p : Decimal) (whole : ℤ) → IsReadable p → with_clamped_power d ≡ p → unsigned_abs whole < far → number_at (point_place p (pos 0)) p.negative (digits_of p) whole ≡ is_exactly d whole
 exactly_is d p whole readable e h =
-    subst (λ (p : Decimal). IsReadable p → number_at (place_of p (pos 0)) p.negative (digits_of p) whole ≡ is_exactly d whole) e (λ r. exactly_at_read d whole r h) readable
+    subst (λ (p : Decimal). IsReadable p → number_at (point_place p (pos 0)) p.negative (digits_of p) whole ≡ is_exactly d whole) e (λ r. exactly_at_read d whole r h) readable
 
 -- the same, by the number that stands before the point
-pub exactly_by : (d p : Decimal) (whole n : ℤ) (place : ℕ) → IsReadable p → read_as d ≡ p → unsigned_abs whole < far → place ≡ not_before_first (place_of p (pos 0)) → n ≡ signed p.negative (capped (front_value place (digits_of p))) →
+pub exactly_by : (d p : Decimal) (whole n : ℤ) (place : ℕ) → IsReadable p → with_clamped_power d ≡ p → unsigned_abs whole < far → place ≡ not_before_first (point_place p (pos 0)) → n ≡ signed p.negative (capped (front_value place (digits_of p))) →
     (list_all is_zero (drop place (digits_of p)) && int_eq n whole) ≡ is_exactly d whole
 exactly_by d p whole n place readable e h f g = rw (g, f) (exactly_is d p whole readable e h)

@@ -2,6 +2,7 @@
 use Rattle.std.proofs.Common.{arith, ◌≡◌, ℕ, ◌<◌, ◌≤◌, List, ℤ, Some, None, Option, refl, sym, ap, ◌∙◌}
 use Rattle.std.specs.Prelude.{unsigned_abs}
 use Rattle.std.specs.Option.{option_map}
+use Rattle.nest_base.specs.Range.{widest}
 use Rattle.micron_decimals.specs.Decimals.{decimal_of, nearest_micron, micron_of, micron_text, IsMicronBeyond}
 use Rattle.micron_decimals.specs.Places.{clamped}
 use Rattle.micron_decimals.proofs.Nearest.{micron_is_nearest, nearest_is_computed}
@@ -35,7 +36,7 @@ pub beyond_from : (text : List ℕ) (limit n : ℤ) → micron_of text ≡ Some 
 beyond_from text limit n e h = (n, micron_is_nearest text n e, h)
 
 -- what was written for a number is read as this number
-pub written_is_read : (text : List ℕ) (limit n : ℤ) → unsigned_abs limit ≤ 2000000000 → unsigned_abs n ≤ unsigned_abs limit → text ≡ micron_text n → micron_of text ≡ Some n
+pub written_is_read : (text : List ℕ) (limit n : ℤ) → unsigned_abs limit ≤ widest → unsigned_abs n ≤ unsigned_abs limit → text ≡ micron_text n → micron_of text ≡ Some n
 written_is_read text limit n small h e = ap (λ t. micron_of t) e ∙ (written_number n (omega (arith, small, h))).read
 
 pub one_some : (x y : ℤ) → Some x ≡ Some y → x ≡ y

@@ -7,12 +7,12 @@ use Rattle.std.proofs.Math.Nat.{pow-le-pow_right}
 use Rattle.std.proofs.lemmas.Bool.{and_parts, le-leb}
 use Rattle.nest_base.specs.Lines.{trimmed}
 use Rattle.micron_decimals.specs.Decimals.{Decimal, are_digits, signed_of, integer_of, with_power, nearest_micron}
-use Rattle.micron_decimals.specs.Places.{far, capped, clamped, read_as}
+use Rattle.micron_decimals.specs.Places.{far, capped, clamped, with_clamped_power}
 use Rattle.micron_decimals.proofs.Exponents.{clamped_same}
 use Rattle.micron_decimals.proofs.Values.{value_below}
 
 -- a decimal with the exponent that is read
-pub read_with_power : (plain : Option Decimal) (o : Option ℤ) (z : ℤ) → Some z ≡ option_map clamped o → with_power plain z ≡ option_map read_as (option_and_then (with_power plain) o)
+pub read_with_power : (plain : Option Decimal) (o : Option ℤ) (z : ℤ) → Some z ≡ option_map clamped o → with_power plain z ≡ option_map with_clamped_power (option_and_then (with_power plain) o)
 read_with_power plain None z e = absurd (cc)
 read_with_power None (Some y) z e = refl
 read_with_power (Some d) (Some y) z e = ap (λ (x : ℤ). Some (record d { power = x })) same
@@ -21,11 +21,11 @@ read_with_power (Some d) (Some y) z e = ap (λ (x : ℤ). Some (record d { power
     same = cc
 
 -- what each decimal that is read as p gives, the decimal of the text gives
-pub read_gives : {Y : Type 0} (f : Decimal → Y) (o : Option Decimal) (p : Decimal) (y : Y) → Some p ≡ option_map read_as o → ((d : Decimal) → read_as d ≡ p → y ≡ f d) → Some y ≡ option_map f o
+pub read_gives : {Y : Type 0} (f : Decimal → Y) (o : Option Decimal) (p : Decimal) (y : Y) → Some p ≡ option_map with_clamped_power o → ((d : Decimal) → with_clamped_power d ≡ p → y ≡ f d) → Some y ≡ option_map f o
 read_gives f None p y e h = absurd (cc)
 read_gives f (Some d) p y e h = ap (λ x. Some x) (h d same)
   where
-    same : read_as d ≡ p
+    same : with_clamped_power d ≡ p
     same = cc
 
 pub clamped_nearest : (o : Option Decimal) → option_map (λ d. clamped (nearest_micron d)) o ≡ option_map clamped (option_map nearest_micron o)

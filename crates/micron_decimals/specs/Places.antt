@@ -17,8 +17,8 @@ clamped (pos n) = pos (capped n)
 clamped (negsuc n) = neg_ℤ (pos (capped (n + 1)))
 
 -- a decimal, with its exponent up to `far` either way from 0
-abbrev pub read_as : Decimal → Decimal
-read_as d = record d { power = clamped d.power }
+abbrev pub with_clamped_power : Decimal → Decimal
+with_clamped_power d = record d { power = clamped d.power }
 
 -- the digits of a decimal, before and after the point
 abbrev pub digits_of : Decimal → List ℕ
@@ -40,8 +40,8 @@ abbrev pub rounds_up : ℕ → Bool
 rounds_up b = nat_le 53 b
 
 -- how many digits stand before the point of ten to the power k times the value
-abbrev pub place_of : Decimal → ℤ → ℤ
-place_of d k = (pos (length d.whole) +ℤ d.power) +ℤ k
+abbrev pub point_place : Decimal → ℤ → ℤ
+point_place d k = (pos (length d.whole) +ℤ d.power) +ℤ k
 
 -- the first p digits as a whole number, with zeros where the digits end
 abbrev pub front_value : ℕ → List ℕ → ℕ

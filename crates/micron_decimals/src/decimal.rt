@@ -3,7 +3,7 @@ ghost use Rattle.std.specs.Prelude.{◌≡◌, ◌≤◌, ◌<◌, IfSome, lengt
 ghost use Rattle.std.specs.List.{before_first, after_first, list_all};
 ghost use Rattle.std.specs.Option.{option_map};
 ghost use Rattle.micron_decimals.specs.Decimals.{is_point, is_exponent_mark, plain_of, with_power, power_of, decimal_of, nearest_micron, is_exactly as is_number, Decimal as Parts};
-ghost use Rattle.micron_decimals.specs.Places.{far, capped, clamped, digits_of, front_value, is_zero, place_of, rounded_at, rounds_up, read_as};
+ghost use Rattle.micron_decimals.specs.Places.{far, capped, clamped, digits_of, front_value, is_zero, point_place, rounded_at, rounds_up, with_clamped_power};
 
 use crate::digits::{FAR, are_digits, are_zeros, cut, is_half, number, with_zeros};
 use crate::numeral::{numeral, signed, split_sign};
@@ -104,7 +104,7 @@ impl<'a> Decimal<'a> {
 
     /// The decimal that a text is, without blanks and tabs at both ends; `None` where it isn't in the grammar.
     pub fn read(text: &'a [u8]) -> Option<Decimal<'a>>
-        ensures { result ≡ option_map read_as (decimal_of text.now) }
+        ensures { result ≡ option_map with_clamped_power (decimal_of text.now) }
     {
         let text = trimmed(text);
         let power = power(text)?;
@@ -115,7 +115,7 @@ impl<'a> Decimal<'a> {
     fn place(&self, shift: i128) -> i128
         requires low { pos 0 ≤ℤ shift }
         requires high { shift ≤ℤ pos 9 }
-        ensures { result ≡ place_of self.now shift }
+        ensures { result ≡ point_place self.now shift }
     {
         self.whole.len() as i128 + self.power + shift
     }
@@ -157,7 +157,7 @@ impl<'a> Decimal<'a> {
 
     /// The size of the whole micrometre that is nearest to the value in millimetres, up to `FAR`.
     fn micron_size(&self) -> u128
-        ensures { result ≡ capped (rounded_at (place_of self.now (pos 3)) (digits_of self.now)) }
+        ensures { result ≡ capped (rounded_at (point_place self.now (pos 3)) (digits_of self.now)) }
     {
         let place = self.place(3);
         if place < 0 {
@@ -175,7 +175,7 @@ impl<'a> Decimal<'a> {
     /// The whole micrometre that is nearest to the value in millimetres, of two the one further from zero, up to `FAR` either
     /// way from 0.
     pub fn micron(&self) -> i128
-        ensures { (d : Parts) → read_as d ≡ self.now → result ≡ clamped (nearest_micron d) }
+        ensures { (d : Parts) → with_clamped_power d ≡ self.now → result ≡ clamped (nearest_micron d) }
     {
         signed(self.negative, self.micron_size())
     }
@@ -183,7 +183,7 @@ impl<'a> Decimal<'a> {
     /// Whether the value is exactly this whole number.
     pub fn is_exactly(&self, whole: i64) -> bool
         requires { unsigned_abs whole < far }
-        ensures { (d : Parts) → read_as d ≡ self.now → result ≡ is_number d whole }
+        ensures { (d : Parts) → with_clamped_power d ≡ self.now → result ≡ is_number d whole }
     {
         let place = self.place(0).max(0) as u128;
         if signed(self.negative, self.front(place)) != i128::from(whole) {

@@ -1,6 +1,7 @@
 //! Numbers, read from text.
 ghost use Rattle.std.specs.Prelude.{◌≡◌, ◌≤◌, ◌<◌, ◌↔◌, Some, None, IfOk, pos, negsuc, ℤ, ◌≤ℤ◌, unsigned_abs, ok_or};
 ghost use Rattle.std.specs.Option.{option_map};
+ghost use Rattle.nest_base.specs.Range.{widest};
 ghost use Rattle.micron_decimals.specs.Decimals.{decimal_of, micron_of, equals_of, integer_of, micron_text, IsMicron, IsMicronBeyond};
 ghost use Rattle.micron_decimals.specs.Places.{clamped};
 
@@ -35,7 +36,7 @@ fn micron(text: &[u8]) -> Option<i128>
 /// micrometre lies beyond plus and minus `limit`. No memory is taken.
 pub fn read_micron(text: &[u8], limit: i64) -> Result<i64, NumberError>
     requires low { pos 0 ≤ℤ limit }
-    requires high { limit ≤ℤ pos 2000000000 }
+    requires high { limit ≤ℤ pos widest }
 
     ensures nearest { IfOk result (λ n. IsMicron text.now n) }
     ensures within { IfOk result (λ n. unsigned_abs n ≤ unsigned_abs limit) }

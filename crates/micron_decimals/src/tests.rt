@@ -2,7 +2,6 @@ use crate::NumberError::{NotANumber, TooFar};
 use crate::{put_micron, read_equals, read_integer, read_micron};
 use anyhow::{Result, ensure};
 use nest_base::Text;
-use std::alloc::Global;
 
 /// The limit that drawings have: 100,000 mm.
 const LIMIT: i64 = 100_000_000;
@@ -140,46 +139,37 @@ fn other_texts_are_no_numbers(_rt: HostRuntime) -> Result<()> {
     Ok(())
 }
 
-/// A text with one byte many times over between two pieces.
-fn spelled(alloc: Global, front: &str, byte: u8, count: usize, rear: &str) -> Result<Vec<u8>> {
-    let mut text = Vec::from_slice(alloc, front.as_bytes())?;
-    for _ in 0..count {
-        text.push(byte)?;
-    }
-    text.extend_from_slice(rear.as_bytes())?;
-    Ok(text)
-}
-
 #[test]
 fn long_texts_are_read(rt: HostRuntime) -> Result<()> {
     let cases = [
-        ("", b'0', 4_093, "1.5", Ok(1_500)),
-        ("-", b'0', 4_096, "", Ok(0)),
-        ("", b'9', 4_096, "", Err(TooFar)),
-        ("0.000", b'9', 4_091, "", Ok(1)),
-        ("0.0004", b'9', 4_090, "", Ok(0)),
-        ("-0.0005", b'0', 4_089, "1", Ok(-1)),
-        ("0.", b'0', 4_088, "5E4085", Ok(1)),
-        ("0.", b'0', 4_088, "5E4084", Ok(0)),
-        ("0.", b'0', 4_088, "5E4089", Ok(5_000)),
-        ("0.", b'0', 4_088, "5E4094", Err(TooFar)),
-        ("1", b'0', 4_089, "E-4089", Ok(1_000)),
-        ("1", b'0', 4_088, "E-4092", Ok(0)),
-        ("1E", b'9', 4_000, "", Err(TooFar)),
-        ("0E", b'9', 4_000, "", Ok(0)),
-        ("1E-", b'9', 4_000, "", Ok(0)),
-        ("1E", b'0', 4_000, "1", Ok(10_000)),
-        ("1E-", b'0', 4_000, "3", Ok(1)),
-        ("", b' ', 4_095, "7", Ok(7_000)),
-        ("7", b'\t', 4_095, "", Ok(7_000)),
-        ("", b' ', 4_096, "", Err(NotANumber)),
-        ("1", b'.', 4_095, "", Err(NotANumber)),
-        ("1E", b'9', 4_000, "e", Err(NotANumber)),
+        ("", "0", 4_093, "1.5", Ok(1_500)),
+        ("-", "0", 4_096, "", Ok(0)),
+        ("", "9", 4_096, "", Err(TooFar)),
+        ("0.000", "9", 4_091, "", Ok(1)),
+        ("0.0004", "9", 4_090, "", Ok(0)),
+        ("-0.0005", "0", 4_089, "1", Ok(-1)),
+        ("0.", "0", 4_088, "5E4085", Ok(1)),
+        ("0.", "0", 4_088, "5E4084", Ok(0)),
+        ("0.", "0", 4_088, "5E4089", Ok(5_000)),
+        ("0.", "0", 4_088, "5E4094", Err(TooFar)),
+        ("1", "0", 4_089, "E-4089", Ok(1_000)),
+        ("1", "0", 4_088, "E-4092", Ok(0)),
+        ("1E", "9", 4_000, "", Err(TooFar)),
+        ("0E", "9", 4_000, "", Ok(0)),
+        ("1E-", "9", 4_000, "", Ok(0)),
+        ("1E", "0", 4_000, "1", Ok(10_000)),
+        ("1E-", "0", 4_000, "3", Ok(1)),
+        ("", " ", 4_095, "7", Ok(7_000)),
+        ("7", "\t", 4_095, "", Ok(7_000)),
+        ("", " ", 4_096, "", Err(NotANumber)),
+        ("1", ".", 4_095, "", Err(NotANumber)),
+        ("1E", "9", 4_000, "e", Err(NotANumber)),
     ];
-    for (front, byte, count, rear, expected) in cases {
-        let text = spelled(rt.alloc(), front, byte, count, rear)?;
+    for (front, piece, count, rear, expected) in cases {
+        let middle = piece.repeat(rt.alloc(), count)?;
+        let text = format!(in rt.alloc(); "{front}{middle}{rear}")?;
         ensure!(
-            read_micron(&text, LIMIT) == expected,
+            read_micron(text.as_bytes(), LIMIT) == expected,
             "{front} {count} {rear}"
         );
     }

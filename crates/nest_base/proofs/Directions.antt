@@ -37,8 +37,5 @@ pub IsSameDirection-sym : (a b : Point) → IsSameDirection a b → IsSameDirect
 IsSameDirection-sym a b s = (cross_product-turned a b s.0, omega (arith, ints, s.1))
 
 -- of three directions each is the sum of the other two, weighted by turns
-pub balance_x : (bx by cx cy dx dy : ℤ) → ((bx *ℤ cy) -ℤ (by *ℤ cx)) *ℤ dx +ℤ ((cx *ℤ dy) -ℤ (cy *ℤ dx)) *ℤ bx ≡ ((bx *ℤ dy) -ℤ (by *ℤ dx)) *ℤ cx
-balance_x bx by cx cy dx dy = rw (diff_of bx, diff_of by, diff_of cx, diff_of cy, diff_of dx, diff_of dy) (simp diffs (diff_same _ _ _ _ (omega arith)))
-
 pub balance_y : (bx by cx cy dx dy : ℤ) → ((bx *ℤ cy) -ℤ (by *ℤ cx)) *ℤ dy +ℤ ((cx *ℤ dy) -ℤ (cy *ℤ dx)) *ℤ by ≡ ((bx *ℤ dy) -ℤ (by *ℤ dx)) *ℤ cy
 balance_y bx by cx cy dx dy = rw (diff_of bx, diff_of by, diff_of cx, diff_of cy, diff_of dx, diff_of dy) (simp diffs (diff_same _ _ _ _ (omega arith)))

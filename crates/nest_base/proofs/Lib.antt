@@ -14,6 +14,8 @@ pub mod Angles
 pub mod Points
 pub mod Orders
 pub mod Lists
+pub mod ListReads
+pub mod NumberLists
 pub mod Fewer
 pub mod Pairs
 pub mod Selections

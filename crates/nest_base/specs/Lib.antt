@@ -1,4 +1,5 @@
 pub mod Range
+pub mod Limits
 pub mod Plane
 pub mod Turn
 pub mod Angles
@@ -9,3 +10,4 @@ pub mod Routes
 pub mod Selection
 pub mod Sight
 pub mod Order
+pub mod NumberLists

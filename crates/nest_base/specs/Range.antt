@@ -4,6 +4,14 @@ use Rattle.nest_base.specs.declared.places.Point.{Point}
 use Rattle.nest_base.specs.declared.places.Segment.{Segment}
 use Rattle.nest_base.specs.declared.places.Edge.{Edge}
 
+-- the widest coordinate that exact predicates take, in micrometres: no product of theirs is too large
+abbrev pub widest : ℕ
+widest = 2000000000
+
+-- the widest coordinate of a drawing
+abbrev pub range : ℕ
+range = 100000000
+
 -- a coordinate lies within plus and minus n
 abbrev pub IsNear : ℕ → ℤ → Type 0
 IsNear n z = (neg_ℤ (pos n) ≤ℤ z) × (z ≤ℤ pos n)

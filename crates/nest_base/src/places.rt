@@ -1,7 +1,7 @@
 //! Places of the plate and the segments between them, in whole micrometres.
 ghost use Rattle.std.specs.Prelude.{◌≡◌, ◌<◌, ◌^◌, ◌-ℤ◌, ◌*ℤ◌, unsigned_abs, IsTrue, ◌↔◌, ◌≢◌};
 ghost use Rattle.nest_base.specs.Plane.{IsBetween, IsOn, rational, direction, cross_product};
-ghost use Rattle.nest_base.specs.Range.{IsNear, IsWithin, IsSegmentWithin, IsEdgeWithin};
+ghost use Rattle.nest_base.specs.Range.{IsNear, IsWithin, IsSegmentWithin, IsEdgeWithin, widest};
 
 /// Coordinates of a drawing lie within plus and minus this many micrometres.
 pub const RANGE: i64 = 100_000_000;
@@ -32,7 +32,7 @@ pub struct Segment {
 impl Point {
     /// Whether a place lies within `PLACE_RANGE`.
     pub fn is_in_range(&self) -> bool
-        ensures { IsTrue result ↔ IsWithin 2000000000 self.now }
+        ensures { IsTrue result ↔ IsWithin widest self.now }
     {
         -PLACE_RANGE <= self.x
             && self.x <= PLACE_RANGE
@@ -44,7 +44,7 @@ impl Point {
 impl Segment {
     /// Whether both ends lie within `PLACE_RANGE`.
     pub fn is_in_range(&self) -> bool
-        ensures { IsTrue result ↔ IsSegmentWithin 2000000000 self.now }
+        ensures { IsTrue result ↔ IsSegmentWithin widest self.now }
     {
         self.a.is_in_range() && self.b.is_in_range()
     }
@@ -69,7 +69,7 @@ pub struct Edge {
 impl Edge {
     /// Whether both ends lie within `PLACE_RANGE`.
     pub fn is_in_range(&self) -> bool
-        ensures { IsTrue result ↔ IsEdgeWithin 2000000000 self.now }
+        ensures { IsTrue result ↔ IsEdgeWithin widest self.now }
     {
         self.low.is_in_range() && self.high.is_in_range()
     }
@@ -77,8 +77,8 @@ impl Edge {
 
 /// How far `a` lies past `b`, on one axis.
 pub(crate) fn difference(a: i64, b: i64) -> i64
-    requires a_near { IsNear 2000000000 a }
-    requires b_near { IsNear 2000000000 b }
+    requires a_near { IsNear widest a }
+    requires b_near { IsNear widest b }
     ensures value { result ≡ a -ℤ b }
     ensures small { unsigned_abs result < 2 ^ 32 }
 {
@@ -99,9 +99,9 @@ pub(crate) fn product(a: i64, b: i64) -> i128
 ///
 /// It is twice the signed area of the triangle `o`, `a`, `b`, in square micrometres.
 pub fn cross(o: Point, a: Point, b: Point) -> i128
-    requires o_within { IsWithin 2000000000 o }
-    requires a_within { IsWithin 2000000000 a }
-    requires b_within { IsWithin 2000000000 b }
+    requires o_within { IsWithin widest o }
+    requires a_within { IsWithin widest a }
+    requires b_within { IsWithin widest b }
     ensures { result ≡ cross_product (direction o a) (direction o b) }
 {
     let left = product(difference(a.x, o.x), difference(b.y, o.y));
@@ -125,9 +125,9 @@ fn is_up(p: Point, s: &Segment) -> bool
 
 /// Whether `p` lies on `s`, ends included.
 pub fn between(p: Point, s: &Segment) -> bool
-    requires p_within { IsWithin 2000000000 p }
-    requires a_within { IsWithin 2000000000 s.now.a }
-    requires b_within { IsWithin 2000000000 s.now.b }
+    requires p_within { IsWithin widest p }
+    requires a_within { IsWithin widest s.now.a }
+    requires b_within { IsWithin widest s.now.b }
     ensures { IsTrue result ↔ IsOn (rational p) s.now.a s.now.b }
 {
     if cross(p, s.a, s.b) != 0 {

@@ -1,10 +1,9 @@
 -- An accepted drawing is refused for no reason, so where nothing failed it's planned, or memory ran out.
 use Rattle.std.proofs.Common.{ap, arith, ◌≡◌, ◌≢◌, ◌≤◌, ◌∙◌, inl, inr, ℕ, List, refl, sym}
-use Rattle.std.specs.Prelude.{Some, None, Contains, slice_get}
+use Rattle.std.specs.Prelude.{Some, None}
 use Rattle.std.specs.Option.{is_some}
 use Rattle.std.proofs.lemmas.Bool.{true≢false}
-use Rattle.std.proofs.lemmas.Option.{slice_get_within, get_or_from_slice_get}
-use Rattle.nest_base.specs.declared.places.Segment.{Segment}
+use Rattle.nest_base.proofs.ListReads.{Contains-from_read}
 use Rattle.plate_edges.proofs.Counts.{one_number_of_pieces}
 use Rattle.cut_desk.specs.Outside.{Outside, Told, WhereTold, Rose, Later}
 use Rattle.dxf_drawing.specs.Drawings.{segments_of}
@@ -18,14 +17,11 @@ use Rattle.nest_program.specs.declared.status.Refusal.TheVariants.{Reading, Spli
 use Rattle.nest_program.specs.declared.status.Status.{Status}
 use Rattle.nest_program.specs.declared.status.Status.TheVariants.{Done, Words, ReadFault, TooLong, Drawing, WriteFault, PrintFault, Memory}
 
-stands_in : (segments : List Segment) (i : ℕ) (s : Segment) → slice_get segments i ≡ Some s → Contains segments s
-stands_in segments i s e = (i, slice_get_within segments i s e, get_or_from_slice_get segments i s s e)
-
 -- a drawing that is split isn't refused by splitting
 split_not_refused : (file : List ℕ) (e : SplitError) → IsSplitRefusal e (segments_of file) → e ≢ NoMemory → IsAccepted file → ⊥
 split_not_refused file (Crossing first second place) refused some accepted =
     let c = refused.crossing in
-    accepted.1.split.on_lattice c.s c.t (stands_in (segments_of file) c.i c.s c.found.0) (stands_in (segments_of file) c.j c.t c.found.1) c.crosses.crosses
+    accepted.1.split.on_lattice c.s c.t (Contains-from_read (segments_of file) c.i c.s c.found.0) (Contains-from_read (segments_of file) c.j c.t c.found.1) c.crosses.crosses
 split_not_refused file TooManyPieces refused some accepted =
     omega (arith, one_number_of_pieces (segments_of file) refused.pieces accepted.1.split.pieces refused.have_pieces accepted.1.split.have_pieces, refused.many, accepted.1.split.few)
 split_not_refused file NoMemory refused some accepted = some refl

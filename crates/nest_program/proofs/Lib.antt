@@ -1,3 +1,5 @@
 pub mod Promises
+pub mod EvenDrawings
 pub mod PlannedOutputs
 pub mod Completeness
+pub mod KeptPromises

@@ -1,51 +1,36 @@
 -- The promise of the top call, kept by a plan for the drawing's edges.
-use Rattle.std.proofs.Common.{◌≡◌, ◌≤◌, inl, inr, ℕ, List, [], ◌∷◌, map, lit≤, refl, sym, ap, subst, ◌∙◌}
+use Rattle.std.proofs.Common.{◌≡◌, ◌≤◌, inl, inr, ℕ, List, [], ◌∷◌, map, lit≤, sym, subst}
 use Rattle.std.specs.Prelude.{All, Contains}
 use Rattle.std.specs.List.{AllZip}
-use Rattle.std.proofs.lemmas.List.Elements.{All-contains}
+use Rattle.std.proofs.lemmas.List.Elements.{recursion_from_All}
 use Rattle.nest_base.specs.declared.places.Point.{Point}
 use Rattle.nest_base.specs.declared.places.Segment.{Segment}
 use Rattle.nest_base.specs.declared.places.Edge.{Edge}
 use Rattle.nest_base.specs.Plane.{HalfEdge}
 use Rattle.nest_base.specs.Order.{IsBefore}
-use Rattle.nest_base.specs.Range.{IsEdgeWithin}
-use Rattle.nest_base.specs.Routes.{legs}
-use Rattle.nest_base.proofs.Lists.{Contains-head, Contains-later, Contains-cases, Contains-none}
+use Rattle.nest_base.specs.Range.{IsEdgeWithin, range}
+use Rattle.nest_base.proofs.Lists.{Contains-cases, Contains-none}
 use Rattle.plate_edges.specs.Edges.{AreEdgesOf}
 use Rattle.plate_sides.specs.Components.{IsMark}
-use Rattle.plate_covers.specs.Cover.{IsTrail, IsCover, joined, HasTrailsIn}
+use Rattle.plate_sides.specs.Cover.{IsTrail, IsCover, joined, HasTrailsIn}
 use Rattle.plate_sides.specs.Enclosing.{IsOrderEnclosing}
-use Rattle.plate_covers.specs.Limit.{IsLimit}
-use Rattle.plate_covers.specs.Routes.{stops}
+use Rattle.plate_sides.specs.Limit.{IsLimit}
+use Rattle.plate_sides.specs.Paths.{path_of}
 use Rattle.pierce_report.specs.Report.{Row, IsRowOf, IsReport}
 use Rattle.plate_plans.specs.Plans.{IsPlan}
-use Rattle.code_moves.specs.BurntChains.{BurnsChains}
+use Rattle.code_moves.specs.BurntChains.{burnt_legs, BurnsChains}
 use Rattle.code_moves.specs.CodeText.{code_text}
 use Rattle.code_moves.specs.Meaning.{moves_of}
 use Rattle.code_moves.proofs.WrittenCode.{written_code_burns}
 use Rattle.sound_code.specs.Lightings.{HasPierces}
-use Rattle.sound_code.specs.Plans.{IsEnclosingPlan, on_lines}
+use Rattle.sound_code.specs.Plans.{IsEnclosingPlan, CanBeCut, on_lines}
 use Rattle.sound_code.proofs.SoundPlans.{burnt_plan_is_sound}
 use Rattle.sound_code.proofs.PlanLightings.{burnt_plan_has_lightings, plan_has_pierces}
-use Rattle.sound_code.proofs.WritableChains.{cut_within, chains_can_be_written}
+use Rattle.sound_code.proofs.WritableChains.{cut_within, chains_can_be_written, paths_burn_their_trails}
 use Rattle.nest_program.specs.Promise.{IsOrderEnclosingPlan}
 
--- the legs between the stops of a trail are its half-edges
-legs_of_trail : (edges : List Edge) (trail : List HalfEdge) → IsTrail edges trail → legs (stops trail) ≡ trail
-legs_of_trail edges [] none = absurd none
-legs_of_trail edges (s ∷ []) is = refl
-legs_of_trail edges (s ∷ t ∷ rest) (is, follows, later) =
-    ap (λ k. s ∷ k) (ap (λ (p : Point). legs (p ∷ map (λ (h : HalfEdge). h.to) (t ∷ rest))) follows ∙ legs_of_trail edges (t ∷ rest) later)
-
--- so each trail is the way along its stops
-legs_of_trails : (edges : List Edge) (trails : List (List HalfEdge)) → ((trail : List HalfEdge) → Contains trails trail → IsTrail edges trail) → map legs (map stops trails) ≡ trails
-legs_of_trails edges [] are = refl
-legs_of_trails edges (trail ∷ trails) are =
-    ap (λ t. t ∷ map legs (map stops trails)) (legs_of_trail edges trail (are trail (Contains-head trail trails)))
-    ∙ ap (λ ts. trail ∷ ts) (legs_of_trails edges trails (λ other c. are other (Contains-later trail other trails c)))
-
 -- the row of a mark vertex
-row_at : (R : Point → Row → Type 0) (mark : Point) (marks : List Point) (rows : List Row) → AllZip R marks rows → Contains marks mark → (row : Row) × R mark row
+pub row_at : (R : Point → Row → Type 0) (mark : Point) (marks : List Point) (rows : List Row) → AllZip R marks rows → Contains marks mark → (row : Row) × R mark row
 row_at R mark [] rows zip c = absurd (Contains-none mark c)
 row_at R mark (m ∷ marks) [] zip c = absurd zip
 row_at R mark (m ∷ marks) (row ∷ rows) zip c = elim (Contains-cases m mark marks c) [
@@ -56,18 +41,21 @@ row_at R mark (m ∷ marks) (row ∷ rows) zip c = elim (Contains-cases m mark m
 -- trails that are a plan for the edges of a drawing, and the report on them
 pub record IsReportedPlan (edges : List Edge) (trails : List (List HalfEdge)) (report : List ℕ) : Type 0 where
   pub ends_in_order : All (λ (e : Edge). IsBefore e.low e.high) edges
-  pub within : All (IsEdgeWithin 100000000) edges
+  pub within : All (IsEdgeWithin range) edges
   pub plan : IsPlan edges trails
   pub reported : IsReport edges (λ mark n. HasTrailsIn edges mark trails n) report
 
 module _ {edges : List Edge} {trails : List (List HalfEdge)} {report : List ℕ} (r : IsReportedPlan edges trails report) where
   abbrev pub chains : List (List Point)
-  chains = map stops trails
+  chains = map path_of trails
 
-  legs_are : map legs chains ≡ trails
-  legs_are = legs_of_trails edges trails (λ trail c. All-contains (IsTrail edges) trails trail r.plan.covers.is_cover.are_trails c)
+  cut : CanBeCut edges
+  cut = cut_within range edges (lit≤ tt) r.ends_in_order r.within
 
-  way : IsEnclosingPlan edges chains
+  legs_are : map burnt_legs chains ≡ trails
+  legs_are = paths_burn_their_trails edges trails cut (recursion_from_All (IsTrail edges) trails r.plan.covers.is_cover.are_trails)
+
+  pub way : IsEnclosingPlan edges chains
   way = record {
     covers = subst (IsCover edges) (sym legs_are) r.plan.covers.is_cover;
     encloses = subst (λ ts. IsOrderEnclosing edges (joined ts)) (sym legs_are) r.plan.covers.enclosing;
@@ -75,10 +63,10 @@ module _ {edges : List Edge} {trails : List (List HalfEdge)} {report : List ℕ}
 
   -- the code that is written for the trails burns them
   pub trails_are_burnt : BurnsChains chains (code_text chains)
-  trails_are_burnt = written_code_burns chains (chains_can_be_written edges chains (cut_within 100000000 edges (lit≤ tt) r.ends_in_order r.within) way.covers)
+  trails_are_burnt = written_code_burns chains (chains_can_be_written edges chains cut way.covers)
 
   -- a trail of the plan is a pierce of its component
-  pierces : (mark : Point) (n : ℕ) → HasTrailsIn edges mark trails n → HasPierces edges (on_lines chains) mark n
+  pub pierces : (mark : Point) (n : ℕ) → HasTrailsIn edges mark trails n → HasPierces edges (on_lines chains) mark n
   pierces mark n has = plan_has_pierces edges mark chains n (subst (λ ts. HasTrailsIn edges mark ts n) (sym legs_are) has)
 
   rows_of_pierces : (some : List Point) (rows : List Row) → AllZip (λ mark (row : Row). IsRowOf edges mark row × HasTrailsIn edges mark trails row.pierces) some rows →
@@ -88,7 +76,7 @@ module _ {edges : List Edge} {trails : List (List HalfEdge)} {report : List ℕ}
   rows_of_pierces (mark ∷ some) [] zip = absurd zip
   rows_of_pierces (mark ∷ some) (row ∷ rows) zip = ((zip.0.0, pierces mark row.pierces zip.0.1), rows_of_pierces some rows zip.1)
 
-  pierces_are_reported : IsReport edges (HasPierces edges (on_lines chains)) report
+  pub pierces_are_reported : IsReport edges (HasPierces edges (on_lines chains)) report
   pierces_are_reported = record {
     marks = r.reported.marks;
     are_marks = r.reported.are_marks;
@@ -97,13 +85,13 @@ module _ {edges : List Edge} {trails : List (List HalfEdge)} {report : List ℕ}
     is_text = r.reported.is_text;
   }
 
-  limits : (mark : Point) → IsMark edges mark → (limit : ℕ) × (n : ℕ) × IsLimit edges mark limit × HasPierces edges (on_lines chains) mark n × (n ≤ limit)
+  pub limits : (mark : Point) → IsMark edges mark → (limit : ℕ) × (n : ℕ) × IsLimit edges mark limit × HasPierces edges (on_lines chains) mark n × (n ≤ limit)
   limits mark is_mark =
       let (row, (is_row, has)) = row_at (λ m (row : Row). IsRowOf edges m row × HasTrailsIn edges m trails row.pierces) mark r.reported.marks r.reported.rows r.reported.are_rows ((r.reported.are_marks.are_all mark).1 is_mark) in
       (row.limit, row.pierces, is_row.has_limit, pierces mark row.pierces has, r.plan.within_limit mark is_mark row.pierces row.limit has is_row.has_limit)
 
   -- that code, and the report, keep the promise
-  pub promise_is_kept : (segments : List Segment) → AreEdgesOf segments edges → IsOrderEnclosingPlan segments (moves_of (code_text chains)) report
+  unfoldable pub promise_is_kept : (segments : List Segment) → AreEdgesOf segments edges → IsOrderEnclosingPlan segments (moves_of (code_text chains)) report
   promise_is_kept segments are_edges = record {
     edges = edges;
     are_edges = are_edges;
@@ -113,4 +101,5 @@ module _ {edges : List Edge} {trails : List (List HalfEdge)} {report : List ℕ}
     within_limits = limits;
     reported = pierces_are_reported;
     no_cover_undercuts = r.plan.none_undercuts;
+    no_cover_undercuts_sum = r.plan.none_undercuts_sum;
   }

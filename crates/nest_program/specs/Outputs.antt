@@ -9,11 +9,11 @@ use Rattle.dxf_drawing.specs.Drawings.{segments_of, read_refusal_of}
 use Rattle.segment_split.specs.Splits.{IsSplit}
 use Rattle.plate_sides.specs.Components.{AreMarks}
 use Rattle.plate_sides.specs.Nesting.{AreParents}
-use Rattle.plate_covers.specs.Routes.{stops}
+use Rattle.plate_sides.specs.Paths.{path_of}
 use Rattle.plate_nesting.specs.Order.{IsBurningOrder}
-use Rattle.plate_plans.specs.Plans.{AreShares, trails_of}
+use Rattle.plate_plans.specs.Plans.{AreComponentCovers, all_trails}
 use Rattle.oe_cover.specs.Ends.{EndAtFirstStarts}
-use Rattle.nest_program.specs.Promise.{IsOrderEnclosingPlan}
+use Rattle.nest_program.specs.Promise.{IsOrderEnclosingPlan, IsFewestWhereEven}
 
 -- the bytes are a drawing that isn't refused, and these are its edges
 pub record IsDrawingOf (file : List ℕ) (edges : List Edge) : Type 0 where
@@ -24,8 +24,8 @@ pub record IsDrawingOf (file : List ℕ) (edges : List Edge) : Type 0 where
 abbrev pub IsAccepted : List ℕ → Type 0
 IsAccepted file = (edges : List Edge) × IsDrawingOf file edges
 
--- the code and the report of an accepted drawing: the code is that of trails, share by share of the components in burning order, and each
--- share ends at the first of the vertices at which a cover of its component may start; read as motion the code has no fault and keeps the promise
+-- the code and the report of an accepted drawing: the code is that of trails, cover by cover of the components in burning order, and each
+-- cover ends at the first of the vertices at which a cover of its component may start; read as motion the code has no fault and keeps the promise
 pub record IsOutput (file code report : List ℕ) : Type 0 where
   pub edges : List Edge
   pub drawing : IsDrawingOf file edges
@@ -35,9 +35,10 @@ pub record IsOutput (file code report : List ℕ) : Type 0 where
   pub are_parents : AreParents edges marks parents
   pub order : List ℕ
   pub is_order : IsBurningOrder parents order
-  pub shares : List (List (List HalfEdge))
-  pub are_shares : AreShares edges marks order shares
-  pub ends : EndAtFirstStarts edges marks order shares
-  pub code_is : code ≡ code_text (map stops (trails_of shares))
+  pub component_covers : List (List (List HalfEdge))
+  pub are_component_covers : AreComponentCovers edges marks order component_covers
+  pub ends : EndAtFirstStarts edges marks order component_covers
+  pub code_is : code ≡ code_text (map path_of (all_trails component_covers))
   pub has_no_fault : code_refusal_of code ≡ None
   pub promise : IsOrderEnclosingPlan (segments_of file) (moves_of code) report
+  pub even : IsFewestWhereEven promise.edges promise.lightings report

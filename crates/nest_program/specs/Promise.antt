@@ -1,12 +1,13 @@
 -- The promise of `run` for a drawing that it plans.
-use Rattle.std.specs.Prelude.{ℕ, ◌≤◌, List}
+use Rattle.std.specs.Prelude.{◌≡◌, ℕ, ◌≤◌, List, ◌++◌, codes}
 use Rattle.nest_base.specs.declared.places.Point.{Point}
 use Rattle.nest_base.specs.declared.places.Segment.{Segment}
 use Rattle.nest_base.specs.declared.places.Edge.{Edge}
 use Rattle.plate_edges.specs.Edges.{AreEdgesOf}
 use Rattle.plate_sides.specs.Components.{IsMark}
-use Rattle.plate_covers.specs.Limit.{IsLimit}
-use Rattle.pierce_bound.specs.Bound.{NoCoverUndercuts}
+use Rattle.plate_sides.specs.Limit.{IsLimit}
+use Rattle.plate_sides.specs.Odd.{IsOdd}
+use Rattle.plate_sides.specs.Bound.{NoCoverUndercuts, NoCoverUndercutsSum}
 use Rattle.pierce_report.specs.Report.{IsReport}
 use Rattle.code_moves.specs.declared.moves.Move.{Move}
 use Rattle.sound_code.specs.Sound.{IsSoundCode}
@@ -22,3 +23,17 @@ pub record IsOrderEnclosingPlan (segments : List Segment) (moves : List Move) (r
   pub within_limits : (mark : Point) → IsMark edges mark → (limit : ℕ) × (n : ℕ) × IsLimit edges mark limit × HasPierces edges lightings mark n × (n ≤ limit)
   pub reported : IsReport edges (HasPierces edges lightings) report
   pub no_cover_undercuts : (mark : Point) → IsMark edges mark → NoCoverUndercuts edges mark
+  pub no_cover_undercuts_sum : NoCoverUndercutsSum edges
+
+-- no vertex of these edges is odd
+abbrev pub AreEven : List Edge → Type 0
+AreEven edges = (v : Point) → IsOdd edges v → ⊥
+
+-- the last line of the report says that the pierces are the fewest
+abbrev pub SaysFewest : List ℕ → Type 0
+SaysFewest report = (front : List ℕ) × (report ≡ front ++ codes "\nfewest\n")
+
+-- where no vertex is odd, each component takes one pierce, and the report says that these are the fewest
+abbrev pub IsFewestWhereEven : List Edge → List Lighting → List ℕ → Type 0
+IsFewestWhereEven edges lightings report =
+    AreEven edges → ((mark : Point) → IsMark edges mark → HasPierces edges lightings mark 1) × SaysFewest report

@@ -1,5 +1,6 @@
 -- What each status says of a run.
 use Rattle.std.specs.Prelude.{◌≡◌, ◌≢◌, ◌⊎◌, ℕ, ◌^◌, ◌<◌, ◌≤◌, List, [], ◌++◌, length, ⊤, codes, Some, None}
+use Rattle.nest_base.specs.Limits.{most_bytes}
 use Rattle.cut_desk.specs.Outside.{Outside, Rose, SameHeld, IsPartlyWritten, IsPartlyPrinted, made_of, print_more}
 use Rattle.code_moves.specs.Meaning.{code_refusal_of, moves_of}
 use Rattle.dxf_entities.specs.declared.error.DrawingError.TheVariants.{OutOfMemory}
@@ -8,7 +9,7 @@ use Rattle.segment_split.specs.Splits.{IsSplitRefusal}
 use Rattle.segment_split.specs.declared.splitting.SplitError.TheVariants.{OutOfMemory as NoMemory}
 use Rattle.nest_program.specs.FaultText.{reading_text, splitting_text}
 use Rattle.nest_program.specs.Outputs.{IsAccepted, IsOutput}
-use Rattle.nest_program.specs.Promise.{IsOrderEnclosingPlan}
+use Rattle.nest_program.specs.Promise.{IsOrderEnclosingPlan, IsFewestWhereEven}
 use Rattle.nest_program.specs.declared.status.Refusal.{Refusal}
 use Rattle.nest_program.specs.declared.status.Refusal.TheVariants.{Reading, Splitting}
 use Rattle.nest_program.specs.declared.status.Status.{Status}
@@ -45,13 +46,23 @@ abbrev pub IsRefused : List ℕ → Refusal → Type 0
 IsRefused file (Reading e) = (read_refusal_of file ≡ Some e) × (e ≢ OutOfMemory)
 IsRefused file (Splitting e) = (read_refusal_of file ≡ None) × IsSplitRefusal e (segments_of file) × (e ≢ NoMemory)
 
+-- a reason that names want of memory
+abbrev pub IsForMemory : Refusal → Type 0
+IsForMemory (Reading e) = e ≡ OutOfMemory
+IsForMemory (Splitting e) = e ≡ NoMemory
+
+-- a status holds no refusal for want of memory
+abbrev pub RefusesForNoMemory : Status → Type 0
+RefusesForNoMemory (Drawing refusal) = IsForMemory refusal → ⊥
+RefusesForNoMemory status = ⊤
+
 -- what a status says of the drawing in IN: with every status but a read fault and want of memory it's decided
 abbrev pub IsDecided : Status → List ℕ → Type 0
-IsDecided TooLong file = 2 ^ 26 < length file
-IsDecided (Drawing refusal) file = (length file ≤ 2 ^ 26) × IsRefused file refusal
-IsDecided Done file = (length file ≤ 2 ^ 26) × IsAccepted file
-IsDecided WriteFault file = (length file ≤ 2 ^ 26) × IsAccepted file
-IsDecided PrintFault file = (length file ≤ 2 ^ 26) × IsAccepted file
+IsDecided TooLong file = most_bytes < length file
+IsDecided (Drawing refusal) file = (length file ≤ most_bytes) × IsRefused file refusal
+IsDecided Done file = (length file ≤ most_bytes) × IsAccepted file
+IsDecided WriteFault file = (length file ≤ most_bytes) × IsAccepted file
+IsDecided PrintFault file = (length file ≤ most_bytes) × IsAccepted file
 IsDecided status file = ⊤
 
 -- which count of faults rose
@@ -69,7 +80,7 @@ pub record NoFaultRose (input output : List ℕ) (old new : Outside) : Type 0 wh
 
 -- an accepted drawing within the limit is planned, or memory ran out
 abbrev pub IsComplete : Status → List ℕ → Type 0
-IsComplete status file = length file ≤ 2 ^ 26 → IsAccepted file → (status ≡ Done) ⊎ (status ≡ Memory)
+IsComplete status file = length file ≤ most_bytes → IsAccepted file → (status ≡ Done) ⊎ (status ≡ Memory)
 
 -- what stands in OUT, and what was printed of the report
 abbrev pub OutputIs : Status → List ℕ → List ℕ → Outside → Outside → Type 0
@@ -90,6 +101,11 @@ pub record KeepsPromise (drawing output : List ℕ) (old new : Outside) : Type 0
   pub report : List ℕ
   pub printed : new.printed ≡ print_more old.printed report
   pub promise : IsOrderEnclosingPlan (segments_of drawing) (moves_of code) report
+
+-- the promise is kept, and where no vertex is odd each component took one pierce, which the report calls the fewest
+abbrev pub KeepsFewestWhereEven : List ℕ → List ℕ → Outside → Outside → Type 0
+KeepsFewestWhereEven drawing output old new =
+    (kept : KeepsPromise drawing output old new) × IsFewestWhereEven kept.promise.edges kept.promise.lightings kept.report
 
 -- which files may have changed: none, or OUT alone
 abbrev pub OthersSame : List ℕ → Outside → Outside → Type 0

@@ -5,6 +5,9 @@
 //! `run` and exits with the status's code.
 #![tactic(auto)]
 
+ghost use Rattle.std.specs.Prelude.{◌≡◌, drop, IfOk};
+ghost use Rattle.std.specs.Vec.Iter.{into_iter_items};
+
 pub mod fault_line;
 pub mod line;
 pub mod output;
@@ -19,8 +22,10 @@ use std::alloc::{AllocError, Global};
 use std::process::ExitCode;
 use std::{env, io};
 
-/// The words after the program's own name.
-fn words_of(alloc: Global, args: env::Args) -> Result<Vec<String>, AllocError> {
+/// The words after the program's own name, all of them and in order.
+fn words_of(alloc: Global, args: env::Args) -> Result<Vec<String>, AllocError>
+    ensures { IfOk result (λ words. words.items ≡ drop 1 (into_iter_items args)) }
+{
     args.skip(1).collect(alloc)
 }
 

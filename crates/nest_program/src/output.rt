@@ -1,7 +1,8 @@
 //! From the bytes of a drawing to the code and the report, all in memory.
 ghost use Rattle.std.specs.Prelude.{◌≡◌, ◌≤◌, ◌^◌, length, map, None, All, AllPairs, IfOk, IfErr};
 ghost use Rattle.nest_base.specs.Order.{IsBefore};
-ghost use Rattle.nest_base.specs.Range.{IsEdgeWithin};
+ghost use Rattle.nest_base.specs.Range.{IsEdgeWithin, range};
+ghost use Rattle.nest_base.specs.Limits.{most_bytes, most_edges};
 ghost use Rattle.plate_edges.specs.Points.{EdgesMeetAtEndsOnly};
 ghost use Rattle.nest_program.specs.Outputs.{IsDrawingOf, IsOutput};
 ghost use Rattle.nest_program.specs.Reasons.{IsReason};
@@ -45,11 +46,11 @@ impl From<OutOfMemory> for PlanError {
 
 /// The edges of a drawing, or why it gives none.
 fn edges_of(alloc: Global, bytes: &[u8]) -> Result<Edges, PlanError>
-    requires few { length bytes.now ≤ 2 ^ 26 }
+    requires few { length bytes.now ≤ most_bytes }
     ensures edges { IfOk result (λ edges. IsDrawingOf bytes.now edges) }
     ensures ends_in_order { IfOk result (λ edges. All (λ e. IsBefore e.low e.high) edges) }
-    ensures within { IfOk result (λ edges. All (IsEdgeWithin 100000000) edges) }
-    ensures few { IfOk result (λ edges. length edges ≤ 2000000) }
+    ensures within { IfOk result (λ edges. All (IsEdgeWithin range) edges) }
+    ensures few { IfOk result (λ edges. length edges ≤ most_edges) }
     ensures apart { IfOk result (λ edges. AllPairs EdgesMeetAtEndsOnly edges) }
     ensures refused { IfErr result (λ why. IsReason why bytes.now) }
 {
@@ -74,13 +75,13 @@ fn no_leads(alloc: Global, plan: &Plan) -> Result<Vec<Option<Point>>, OutOfMemor
 
 /// The code and the report of a drawing, or why it gives none.
 pub fn output_of(alloc: Global, bytes: &[u8]) -> Result<Output, PlanError>
-    requires few { length bytes.now ≤ 2 ^ 26 }
+    requires few { length bytes.now ≤ most_bytes }
     ensures ok { IfOk result (λ output. IsOutput bytes.now output.code output.report) }
     ensures refused { IfErr result (λ why. IsReason why bytes.now) }
 {
     let edges = edges_of(alloc, bytes)?;
     let mut graph = PlaneGraph::build(alloc, &edges)?;
-    let faces = Faces::build(alloc, &graph)?;
+    let faces = Faces::build(alloc, &graph, &edges)?;
     let plan = cover_all(alloc, &mut graph, &faces)?;
     let leads = no_leads(alloc, &plan)?;
     let code = write_code(alloc, &graph, &plan, &leads)?;

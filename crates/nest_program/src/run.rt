@@ -2,7 +2,7 @@
 ghost use Rattle.std.specs.Prelude.{◌≡◌, ◌≢◌, ◌↔◌, Some, None, map, string_bytes, IfSome, IfNone};
 ghost use Rattle.cut_desk.specs.Outside.{Later, SameHeld, WhereTold};
 ghost use Rattle.nest_program.specs.Words.{plan_of};
-ghost use Rattle.nest_program.specs.Statuses.{IsDecided, HasCause, NoFaultRose, IsComplete, FilesAre, KeepsPromise, OutputIs, IsQuiet, IsFaultLine, PrintsLine};
+ghost use Rattle.nest_program.specs.Statuses.{IsDecided, HasCause, NoFaultRose, IsComplete, FilesAre, KeepsPromise, KeepsFewestWhereEven, RefusesForNoMemory, OutputIs, IsQuiet, IsFaultLine, PrintsLine};
 
 use crate::fault_line::fault_line;
 use crate::output::{PlanError, output_of};
@@ -20,6 +20,7 @@ fn plan<D: Desk>(alloc: Global, desk: &mut D, input: &str, output: &str) -> Stat
     ensures decided { WhereTold ((D.seen desk.old).held input.now) (IsDecided result) }
     ensures absent { (D.seen desk.old).held input.now ≡ Some None → result ≡ Status.ReadFault }
     ensures cause { HasCause result input.now output.now (D.seen desk.old) (D.seen desk.new) }
+    ensures refusal { RefusesForNoMemory result }
     ensures output { WhereTold ((D.seen desk.old).held input.now) (λ drawing.
         OutputIs result drawing output.now (D.seen desk.old) (D.seen desk.new)) }
     ensures files { FilesAre result output.now (D.seen desk.old) (D.seen desk.new) }
@@ -73,10 +74,16 @@ pub fn run<D: Desk>(alloc: Global, words: &[String], desk: &mut D) -> Status
         NoFaultRose f.input f.output (D.seen desk.old) (D.seen desk.new) →
         WhereTold ((D.seen desk.old).held f.input) (IsComplete result)) }
 
+    // Want of memory is no refusal, whatever the outside tells of the drawing.
+    ensures refusal { RefusesForNoMemory result }
+
     // What a planned drawing gives.
     ensures headline { IfSome (plan_of (map string_bytes words.now)) (λ f. result ≡ Status.Done →
         WhereTold ((D.seen desk.old).held f.input) (λ drawing.
         KeepsPromise drawing f.output (D.seen desk.old) (D.seen desk.new))) }
+    ensures even { IfSome (plan_of (map string_bytes words.now)) (λ f. result ≡ Status.Done →
+        WhereTold ((D.seen desk.old).held f.input) (λ drawing.
+        KeepsFewestWhereEven drawing f.output (D.seen desk.old) (D.seen desk.new))) }
 
     // What stands after each answer.
     ensures output { IfSome (plan_of (map string_bytes words.now)) (λ f.

@@ -10,10 +10,11 @@ use crate::run::run;
 use crate::status::Status;
 use anyhow::{Result, ensure};
 use cut_desk::MemoryDesk;
+use drawing_samples::Ends;
 use std::alloc::{AllocError, Global};
 use std::str;
 
-/// How a part of entities begins.
+/// How an ENTITIES section begins.
 const HEAD: &str = "0=SECTION|2=ENTITIES";
 
 /// How it ends, and the drawing with it.
@@ -67,6 +68,61 @@ fn file_of(alloc: Global, pieces: &[&str], end: &str) -> Result<Vec<u8>, AllocEr
 /// The file of the square.
 fn square_file(alloc: Global) -> Result<Vec<u8>, AllocError> {
     file_of(alloc, &[HEAD, SQUARE, TAIL], "\n")
+}
+
+/// The file of a drawing, with its coordinates as whole millimetres.
+fn drawing_of(alloc: Global, segments: &[Ends]) -> Result<Vec<u8>, AllocError> {
+    let mut file = file_of(alloc, &[HEAD], "\n")?;
+    for [ax, ay, bx, by] in segments {
+        let line = format!(in alloc;
+            "0\nLINE\n8\n0\n10\n{ax}.000\n20\n{ay}.000\n11\n{bx}.000\n21\n{by}.000\n"
+        )?;
+        file.extend_from_slice(line.as_bytes())?;
+    }
+    put_lines(TAIL, "\n", &mut file)?;
+    file.push(b'\n')?;
+    Ok(file)
+}
+
+/// A place in whole millimetres.
+type Place = (u32, u32);
+
+/// Appends the code of the chain along these places.
+fn put_chain(alloc: Global, chain: &[Place], code: &mut String) -> Result<(), AllocError> {
+    for (k, (x, y)) in chain.iter().enumerate() {
+        let line = if k == 0 {
+            format!(in alloc; "G0 X{x}.000 Y{y}.000\nM3\n")?
+        } else {
+            format!(in alloc; "G1 X{x}.000 Y{y}.000\n")?
+        };
+        code.push_str(line.as_str())?;
+    }
+    code.push_str("M5\n")
+}
+
+/// The code of these chains.
+fn code_of(alloc: Global, chains: &[&[Place]]) -> Result<String, AllocError> {
+    let mut code = String::from_str(alloc, "G21 G90\nF1000 S1\n")?;
+    for chain in chains {
+        put_chain(alloc, chain, &mut code)?;
+    }
+    code.push_str("M2\n")?;
+    Ok(code)
+}
+
+/// The report on components with so many edges and odd vertices, each with one pierce.
+fn report_of(alloc: Global, components: &[(usize, usize)]) -> Result<String, AllocError> {
+    let mut report = String::from_str(alloc, "")?;
+    for (k, (edges, odd)) in components.iter().enumerate() {
+        let line = format!(in alloc;
+            "component {} edges {edges} odd {odd} bound 1 limit 1 pierces 1\n",
+            k + 1
+        )?;
+        report.push_str(line.as_str())?;
+    }
+    let total = components.len();
+    report.push_str(format!(in alloc; "total pierces {total} bound {total}\nfewest\n")?.as_str())?;
+    Ok(report)
 }
 
 /// How many bytes of code most drawings here give at the most.
@@ -147,7 +203,7 @@ fn is_answered(alloc: Global, what: &str, drawing: &[u8], why: &str) -> Result<(
 }
 
 #[test]
-fn other_words_print_the_usage(rt: HostRuntime) -> Result<()> {
+fn other_words_print_the_usage_and_call_nothing_else(rt: HostRuntime) -> Result<()> {
     let alloc = rt.alloc();
     let cases: [&[&str]; 11] = [
         &[],
@@ -164,9 +220,15 @@ fn other_words_print_the_usage(rt: HostRuntime) -> Result<()> {
     ];
     for texts in cases {
         let mut desk = desk_with(alloc, &square_file(alloc)?, ROOM)?;
+        // The print of the usage is the first call. The second one is to fail, and comes only with the plan below.
+        desk.fail_call(2)?;
         let status = run(alloc, &words_of(alloc, texts)?, &mut desk);
         ensure!(matches!(status, Status::Words) && status.code() == 2);
         ensure!(desk.printed() == b"usage: plan IN OUT\n".as_slice());
+        ensure!(desk.faults() == 0);
+        let status = plan(alloc, &mut desk)?;
+        ensure!(matches!(status, Status::ReadFault));
+        ensure!(desk.faults() == 1);
         ensure!(desk.file("a.ngc").is_none());
     }
     Ok(())

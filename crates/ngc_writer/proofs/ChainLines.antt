@@ -4,14 +4,14 @@ use Rattle.std.specs.Prelude.{Option, None, Some}
 use Rattle.nest_base.specs.declared.numbers.Side.{Side}
 use Rattle.nest_base.specs.declared.places.Point.{Point}
 use Rattle.nest_base.specs.Plane.{HalfEdge}
-use Rattle.plate_covers.specs.Routes.{stops_from}
-use Rattle.face_nesting.specs.Numbering.{numbers_of}
+use Rattle.plate_sides.specs.Paths.{path_from}
+use Rattle.nest_base.specs.NumberLists.{side_numbers}
 use Rattle.code_moves.specs.CodeText.{motion_text, chain_text}
 use Rattle.ngc_writer.specs.Lightings.{lighting_text}
 
 module _ (half : ℕ → HalfEdge) where
   -- the lines along the half-edges of a chain
-  burns : (chain : List Side) → flat_map (motion_text (codes "G1")) (map (λ (h : HalfEdge). h.to) (map half (numbers_of chain))) ≡ flat_map (λ (s : Side). motion_text (codes "G1") (half s.0).to) chain
+  burns : (chain : List Side) → flat_map (motion_text (codes "G1")) (map (λ (h : HalfEdge). h.to) (map half (side_numbers chain))) ≡ flat_map (λ (s : Side). motion_text (codes "G1") (half s.0).to) chain
   burns [] = refl
   burns (s ∷ chain) = ap (λ l. motion_text (codes "G1") (half s.0).to ++ l) (burns chain)
 
@@ -20,7 +20,7 @@ module _ (half : ℕ → HalfEdge) where
   framed start lead burnt = simp append_assoc
 
   pub chain_lines : (lead : Option Point) (first : Side) (chain : List Side) →
-      chain_text (stops_from lead (map half (numbers_of (first ∷ chain))))
+      chain_text (path_from lead (map half (side_numbers (first ∷ chain))))
       ≡ lighting_text lead (half first.0).from ++ flat_map (λ (s : Side). motion_text (codes "G1") (half s.0).to) (first ∷ chain) ++ codes "M5\n"
   chain_lines None first chain =
       let start : List ℕ = motion_text (codes "G0") (half first.0).from in
@@ -38,7 +38,7 @@ module _ (half : ℕ → HalfEdge) where
   -- one after the other they are those of the chain
   pub chain_written : (lead : Option Point) (chain : List Side) (d : Side) (p : Point) (before lit burnt : List ℕ) → 0 < length chain → p ≡ (half (get_or chain 0 d).0).from →
       lit ≡ before ++ lighting_text lead p → burnt ≡ lit ++ flat_map (λ (s : Side). motion_text (codes "G1") (half s.0).to) chain →
-      burnt ++ codes "M5\n" ≡ before ++ chain_text (stops_from lead (map half (numbers_of chain)))
+      burnt ++ codes "M5\n" ≡ before ++ chain_text (path_from lead (map half (side_numbers chain)))
   chain_written lead [] d p before lit burnt some at is_lit is_burnt = absurd (omega (arith, some))
   chain_written lead (first ∷ chain) d p before lit burnt some at is_lit is_burnt =
       let lines : List ℕ = flat_map (λ (s : Side). motion_text (codes "G1") (half s.0).to) (first ∷ chain) in

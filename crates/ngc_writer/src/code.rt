@@ -1,10 +1,10 @@
 //! The lines of code, each ended by LF, with numbers in millimetres.
 ghost use Rattle.std.specs.Prelude.{◌≡◌, ◌<◌, ◌++◌, All, length, codes, flat_map, map, IfOk, OnOk};
 ghost use Rattle.nest_base.specs.Plane.{HalfEdge};
-ghost use Rattle.plate_covers.specs.Routes.{stops_from, routes_of};
+ghost use Rattle.plate_sides.specs.Paths.{path_from, paths_of};
 ghost use Rattle.half_edges.specs.Numbers.{half_edges_of};
-ghost use Rattle.face_nesting.specs.Numbering.{numbers_of};
-ghost use Rattle.cover_plan.specs.Trails.{half_of};
+ghost use Rattle.nest_base.specs.NumberLists.{side_numbers};
+ghost use Rattle.cover_plan.specs.Trails.{half_edge_of};
 ghost use Rattle.ngc_writer.specs.Lightings.{lighting_text};
 ghost use Rattle.code_moves.specs.CodeText.{head_text, motion_text, chain_text, tail_text, code_text};
 
@@ -36,7 +36,7 @@ fn write_motion(word: &[u8], p: Point, out: &mut Text) -> Result<(), OutOfMemory
 /// Where a half-edge begins.
 fn beginning_of(graph: &PlaneGraph, s: Side) -> Point
     requires within { s.0 < length (half_edges_of graph.now.edges) }
-    ensures { result ≡ (half_of graph.now s.0).from }
+    ensures { result ≡ (half_edge_of graph.now s.0).from }
 {
     graph.place(graph.from(s))
 }
@@ -44,7 +44,7 @@ fn beginning_of(graph: &PlaneGraph, s: Side) -> Point
 /// Where a half-edge leads.
 fn end_of(graph: &PlaneGraph, s: Side) -> Point
     requires within { s.0 < length (half_edges_of graph.now.edges) }
-    ensures { result ≡ (half_of graph.now s.0).to }
+    ensures { result ≡ (half_edge_of graph.now s.0).to }
 {
     graph.place(graph.to(s))
 }
@@ -53,7 +53,7 @@ fn end_of(graph: &PlaneGraph, s: Side) -> Point
 fn write_burns(graph: &PlaneGraph, chain: &[Side], out: &mut Text) -> Result<(), OutOfMemory>
     requires within { All (λ s. s.0 < length (half_edges_of graph.now.edges)) chain.now }
     ensures { OnOk result (out.new ≡ out.old ++
-        flat_map (λ s. motion_text (codes "G1") (half_of graph.now s.0).to) chain.now) }
+        flat_map (λ s. motion_text (codes "G1") (half_edge_of graph.now s.0).to) chain.now) }
 {
     for s in chain {
         write_motion(b"G1", end_of(graph, *s), out)?;
@@ -82,7 +82,7 @@ fn write_chain(
 ) -> Result<(), OutOfMemory>
     requires some { 0 < length chain.now }
     requires within { All (λ s. s.0 < length (half_edges_of graph.now.edges)) chain.now }
-    ensures { OnOk result (out.new ≡ out.old ++ chain_text (stops_from lead (map (half_of graph.now) (numbers_of chain.now)))) }
+    ensures { OnOk result (out.new ≡ out.old ++ chain_text (path_from lead (map (half_edge_of graph.now) (side_numbers chain.now)))) }
 {
     write_lighting(beginning_of(graph, chain[0]), lead, out)?;
     write_burns(graph, chain, out)?;
@@ -107,7 +107,7 @@ pub fn write_code(
 ) -> Result<Text, OutOfMemory>
     requires within { All (All (λ s. s < length (half_edges_of graph.now.edges))) plan.now }
     requires as_many { length leads.now ≡ length plan.now }
-    ensures { IfOk result (λ code. code ≡ code_text (routes_of leads.now (map (map (half_of graph.now)) plan.now))) }
+    ensures { IfOk result (λ code. code ≡ code_text (paths_of leads.now (map (map (half_edge_of graph.now)) plan.now))) }
 {
     let mut code = Text::new(alloc);
     write_head(&mut code)?;

@@ -5,7 +5,5 @@
 #![tactic(auto)]
 
 pub mod code;
-#[cfg(test)]
-mod tests;
 
 pub use code::write_code;

@@ -2,11 +2,11 @@
 use Rattle.std.proofs.Common.{arith, ◌≡◌, ◌≢◌, ◌≤◌, ◌<◌, ◌+◌, ◌-◌, inl, inr, ℕ, zero, suc, List, [], ◌∷◌, length, get_or, take, drop, refl, sym, ap, ◌∙◌}
 use Rattle.std.proofs.lemmas.List.{drop-drop}
 use Rattle.std.proofs.lemmas.Bool.Decides.{eqb_tells}
-use Rattle.half_edges.specs.Rotation.{Rotation, to}
+use Rattle.rotation_systems.specs.RotationSystem.{RotationSystem, to}
 use Rattle.cover_walks.specs.Chains.{before_chains, chains_of}
 use Rattle.oe_cover.specs.ChainEnds.{chain_length}
 
-module _ (g : Rotation) where
+module _ (g : RotationSystem) where
   -- chains that begin with a
   data BeginsWith : ℕ → List (List ℕ) → Type 0 where
     begins : {a : ℕ} {chain : List ℕ} {rest : List (List ℕ)} → BeginsWith a ((a ∷ chain) ∷ rest)

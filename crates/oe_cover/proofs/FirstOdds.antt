@@ -1,23 +1,18 @@
 -- The first half-edge that leaves an odd vertex, when one more half-edge is looked at.
-use Rattle.std.proofs.Common.{arith, ◌≡◌, ◌⊎◌, inl, inr, ℕ, ◌<◌, ◌≤◌, List, [], ◌∷◌, ◌++◌, length, sym, subst}
+use Rattle.std.proofs.Common.{arith, ◌≡◌, inl, inr, ℕ, ◌<◌, ◌≤◌, List, [], ◌∷◌, ◌++◌, length, sym, subst}
 use Rattle.std.specs.Prelude.{◌↔◌, Bool, false, Contains, IfNone, IfSome, IsTrue, Option, None, Some}
 use Rattle.std.proofs.lemmas.Bool.{cases_lt}
 use Rattle.std.proofs.lemmas.Option.{slice_get_within}
+use Rattle.std.proofs.lemmas.List.Elements.{Contains-push_cases}
 use Rattle.nest_base.specs.declared.numbers.Side.{Side}
 use Rattle.half_edges.specs.Graph.{Graph, origin_of}
-use Rattle.half_edges.proofs.Items.{Contains-from_read, read_from_Contains, read_pushed, read_kept, read_of_pushed}
+use Rattle.nest_base.proofs.ListReads.{Contains-from_read, read_pushed, read_kept, read_of_pushed}
 use Rattle.cover_plan.specs.Laws.{LeavesOdd}
 use Rattle.oe_cover.specs.Starts.{IsFirstOdd, NoneLeavesOdd, FirstOddIs}
 
--- what stands in a list with one more element
-stands_before : (xs : List ℕ) (y t : ℕ) → Contains (xs ++ y ∷ []) t → Contains xs t ⊎ (y ≡ t)
-stands_before xs y t stands =
-    let read = read_from_Contains (xs ++ y ∷ []) t stands in
-    elim (read_of_pushed xs y read.0 t read.1) [ inl old ↦ inl (Contains-from_read xs read.0 t old) | inr last ↦ inr last.1 ]
-
 module _ (graph : Graph) (xs : List ℕ) (y : ℕ) where
   pub none_more : NoneLeavesOdd graph xs → (LeavesOdd graph y → ⊥) → NoneLeavesOdd graph (xs ++ y ∷ [])
-  none_more none even t stands odd = elim (stands_before xs y t stands) [
+  none_more none even t stands odd = elim (Contains-push_cases xs y t stands) [
     | inl old ↦ none t old odd
     | inr same ↦ even (subst (LeavesOdd graph) (sym same) odd)
   ]
@@ -28,7 +23,7 @@ module _ (graph : Graph) (xs : List ℕ) (y : ℕ) where
     place = is.place;
     stands = read_kept xs y is.place s is.stands;
     odd = is.odd;
-    least = λ t stands odd. elim (stands_before xs y t stands) [
+    least = λ t stands odd. elim (Contains-push_cases xs y t stands) [
       | inl old ↦ is.least t old odd
       | inr same ↦ subst (λ (u : ℕ). origin_of graph s ≤ origin_of graph u) same (later (subst (LeavesOdd graph) (sym same) odd))
     ];
@@ -44,7 +39,7 @@ module _ (graph : Graph) (xs : List ℕ) (y : ℕ) where
     place = length xs;
     stands = read_pushed xs y;
     odd = odd;
-    least = λ t stands odd_t. elim (stands_before xs y t stands) [
+    least = λ t stands odd_t. elim (Contains-push_cases xs y t stands) [
       | inl old ↦ omega (arith, before t old odd_t)
       | inr same ↦ subst (λ (u : ℕ). origin_of graph y ≤ origin_of graph u) same (omega arith)
     ];

@@ -1,9 +1,10 @@
 -- A draft with one more chain.
 use Rattle.std.proofs.Common.{arith, ◌≡◌, ◌≤◌, ◌<◌, ◌+◌, ℕ, List, [], ◌∷◌, ◌++◌, length, length-append, sym, ap, subst, ◌∙◌}
 use Rattle.std.specs.Prelude.{vec_capacity}
-use Rattle.std.proofs.lemmas.List.{length-map, map-append}
+use Rattle.std.proofs.lemmas.List.{map-append}
 use Rattle.nest_base.specs.declared.numbers.Side.{Side}
-use Rattle.face_nesting.specs.Numbering.{numbers_of}
+use Rattle.nest_base.specs.NumberLists.{side_numbers}
+use Rattle.nest_base.proofs.NumberLists.{length-side_numbers}
 use Rattle.face_nesting.proofs.NumbersOf.{side_number}
 use Rattle.oe_cover.specs.declared.draft.Draft.{Draft}
 use Rattle.oe_cover.specs.Pieces.{AreEnds}
@@ -15,9 +16,6 @@ pub ends_few : (first : ℕ) (ends : List ℕ) (behind : ℕ) → AreEnds first 
 ends_few first [] behind are = omega (arith, are)
 ends_few first (end ∷ ends) behind are = omega (arith, are.0, ends_few end ends behind are.1)
 
-pub length-numbers_of : (sides : List Side) → length (numbers_of sides) ≡ length sides
-length-numbers_of sides = length-map sides side_number
-
 -- a chain is appended to a draft
 pub record IsAppended (before after : Draft) (chain : List Side) : Type 0 where
   pub some : 0 < length chain
@@ -27,12 +25,12 @@ pub record IsAppended (before after : Draft) (chain : List Side) : Type 0 where
   pub ends_room : vec_capacity before.ends ≤ vec_capacity after.ends
 
 pub chains_grow : (before after : Draft) (chain : List Side) (room : ℕ) → IsDraft room before → IsAppended before after chain →
-    chains_in after ≡ chains_in before ++ numbers_of chain ∷ []
+    chains_in after ≡ chains_in before ++ side_numbers chain ∷ []
 chains_grow before after chain room is is_appended =
-    let long = length-numbers_of before.sides.items in
-    let are : AreEnds 0 before.ends.items (length (numbers_of before.sides.items)) = subst (AreEnds 0 before.ends.items) (sym long) is.are_ends in
-    let end : length before.sides.items + length chain ≡ length (numbers_of before.sides.items) + length (numbers_of chain) = omega (arith, long, length-numbers_of chain) in
-    rw (is_appended.sides, is_appended.ends, end, map-append side_number before.sides.items chain) (pieces_grow (numbers_of before.sides.items) (numbers_of chain) before.ends.items are)
+    let long = length-side_numbers before.sides.items in
+    let are : AreEnds 0 before.ends.items (length (side_numbers before.sides.items)) = subst (AreEnds 0 before.ends.items) (sym long) is.are_ends in
+    let end : length before.sides.items + length chain ≡ length (side_numbers before.sides.items) + length (side_numbers chain) = omega (arith, long, length-side_numbers chain) in
+    rw (is_appended.sides, is_appended.ends, end, map-append side_number before.sides.items chain) (pieces_grow (side_numbers before.sides.items) (side_numbers chain) before.ends.items are)
 
 pub draft_grows : (before after : Draft) (chain : List Side) (room : ℕ) → IsDraft room before → IsAppended before after chain → IsDraft room after
 draft_grows before after chain room is is_appended =

@@ -6,6 +6,6 @@ pub mod FirstOdds
 pub mod FirstStarts
 pub mod FirstEnds
 pub mod PlannedOrders
-pub mod CoveredParts
+pub mod CoveredComponents
 pub mod ComponentStarts
-pub mod PlannedShares
+pub mod PlannedCovers

@@ -3,13 +3,13 @@ use Rattle.std.proofs.Common.{◌⊎◌, inl, inr, ℕ, ◌+◌, ◌≤◌, ◌<
 use Rattle.std.specs.Prelude.{All, Contains}
 use Rattle.std.proofs.lemmas.List.Elements.{All-contains}
 use Rattle.nest_base.proofs.Lists.{Contains-none, Contains-head, Contains-later, Contains-cases, All-from_contains}
-use Rattle.half_edges.specs.Rotation.{Rotation, IsRotation}
+use Rattle.rotation_systems.specs.RotationSystem.{RotationSystem, IsRotationSystem}
 use Rattle.cover_walks.specs.Orders.{Has, Once}
 use Rattle.cover_walks.specs.Walks.{Inside}
 use Rattle.cover_walks.proofs.Holdings.{has_inside}
 use Rattle.cover_walks.proofs.Parity.{few_edges}
 
-module _ (g : Rotation) where
+module _ (g : RotationSystem) where
   -- an edge of both orders is one of either
   pub Has-either : (xs ys : List ℕ) (s : ℕ) → Has g (xs ++ ys) s → Has g xs s ⊎ Has g ys s
   Has-either [] ys s has = inr has
@@ -40,9 +40,9 @@ module _ (g : Rotation) where
   inside_all (x ∷ xs) within = (within x (Contains-head x xs), refl, inside_all xs (λ s stands. within s (Contains-later x s xs stands)))
 
   -- so they have no more edges than there are
-  pub all_few : (xs : List ℕ) → IsRotation g → All (λ s. s < g.sides) xs → Once g xs → length xs + length xs ≤ g.sides
+  pub all_few : (xs : List ℕ) → IsRotationSystem g → All (λ s. s < g.sides) xs → Once g xs → length xs + length xs ≤ g.sides
   all_few xs rotation within once =
       few_edges g rotation (λ v. 0) 0 xs (inside_all xs (λ s stands. All-contains (λ t. t < g.sides) xs s within stands)) once
 
-  pub all_within : (part : ℕ → ℕ) (c : ℕ) (xs : List ℕ) → IsRotation g → Inside g part c xs → All (λ s. s < g.sides) xs
-  all_within part c xs rotation inside = All-from_contains (λ s. s < g.sides) xs (λ s stands. has_inside g rotation part c xs s inside (Has-contained xs s stands))
+  pub all_within : (component : ℕ → ℕ) (c : ℕ) (xs : List ℕ) → IsRotationSystem g → Inside g component c xs → All (λ s. s < g.sides) xs
+  all_within component c xs rotation inside = All-from_contains (λ s. s < g.sides) xs (λ s stands. has_inside g rotation component c xs s inside (Has-contained xs s stands))

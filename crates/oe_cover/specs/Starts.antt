@@ -22,9 +22,9 @@ FirstOddIs graph sides (Some s) = IsFirstOdd graph sides s.0
 
 -- the first of the outer sides that leave an odd vertex; where none does, the mark side
 abbrev pub IsFirstStart : Graph → List ℕ → ℕ → Type 0
-IsFirstStart graph ring s = IsFirstOdd graph ring s ⊎ (NoneLeavesOdd graph ring × (slice_get ring 0 ≡ Some s))
+IsFirstStart graph cycle s = IsFirstOdd graph cycle s ⊎ (NoneLeavesOdd graph cycle × (slice_get cycle 0 ≡ Some s))
 
--- a half-edge of the outer ring, which leaves an odd vertex if any of them does
-pub record IsLawfulStart (graph : Graph) (ring : List ℕ) (s : ℕ) : Type 0 where
-  pub stands : Contains ring s
-  pub odd : (t : ℕ) → Contains ring t → LeavesOdd graph t → LeavesOdd graph s
+-- a half-edge of the outer cycle, which leaves an odd vertex if any of them does
+pub record IsLawfulStart (graph : Graph) (cycle : List ℕ) (s : ℕ) : Type 0 where
+  pub stands : Contains cycle s
+  pub odd : (t : ℕ) → Contains cycle t → LeavesOdd graph t → LeavesOdd graph s

@@ -3,10 +3,10 @@ ghost use Rattle.std.specs.Prelude.{◌≡◌, ◌<◌, [], ℕ, List, length, A
 ghost use Rattle.nest_base.specs.Plane.{HalfEdge};
 ghost use Rattle.plate_sides.specs.Nesting.{AreParents, HasMarkSides};
 ghost use Rattle.plate_nesting.specs.Order.{IsBurningOrder};
-ghost use Rattle.plate_plans.specs.Plans.{AreShares, IsPlan, trails_of};
+ghost use Rattle.plate_plans.specs.Plans.{AreComponentCovers, IsPlan, all_trails};
 ghost use Rattle.half_edges.specs.Numbers.{half_edges_of};
 ghost use Rattle.half_edges.specs.Burns.{IsBurnt, with_burnt};
-ghost use Rattle.face_nesting.specs.Nesting.{AreOuterRings};
+ghost use Rattle.face_nesting.specs.Nesting.{AreOuterCycles};
 ghost use Rattle.oe_cover.specs.Ends.{EndAtFirstStarts};
 ghost use Rattle.oe_cover.specs.Trails.{trails_by};
 
@@ -25,13 +25,13 @@ use std::alloc::Global;
 pub fn cover_all(alloc: Global, graph: &mut PlaneGraph, faces: &Faces) -> Result<Plan, OutOfMemory>
     requires unburnt { graph.old.burnt ≡ [] }
     requires parents { AreParents graph.old.edges graph.old.marks faces.now.parents }
-    requires rings { AreOuterRings graph.old faces.now }
+    requires cycles { AreOuterCycles graph.old faces.now }
     requires mark_sides { HasMarkSides graph.old.edges }
     ensures plan { IfOk result (λ plan. IsPlan graph.old.edges (trails_by graph.old.edges plan)) }
     ensures in_order { IfOk result (λ plan. (order : List ℕ) × IsBurningOrder faces.now.parents order
-        × (shares : List (List (List HalfEdge))) × AreShares graph.old.edges graph.old.marks order shares
-        × EndAtFirstStarts graph.old.edges graph.old.marks order shares
-        × (trails_by graph.old.edges plan ≡ trails_of shares)) }
+        × (component_covers : List (List (List HalfEdge))) × AreComponentCovers graph.old.edges graph.old.marks order component_covers
+        × EndAtFirstStarts graph.old.edges graph.old.marks order component_covers
+        × (trails_by graph.old.edges plan ≡ all_trails component_covers)) }
     ensures within { IfOk result (λ plan. All (All (λ s. s < length (half_edges_of graph.old.edges))) plan) }
     ensures burnt { OnOk result ((s : ℕ) → s < length (half_edges_of graph.old.edges) → IsBurnt graph.new s) }
     ensures same { graph.new ≡ with_burnt graph.old graph.new.burnt }

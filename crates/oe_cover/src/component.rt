@@ -2,10 +2,10 @@
 ghost use Rattle.std.specs.Prelude.{◌≡◌, ◌<◌, ◌↔◌, ◌⊎◌, ℕ, length, slice_get, Some, IfOk, OnOk, OnErr};
 ghost use Rattle.nest_base.specs.declared.places.Point.{Point};
 ghost use Rattle.nest_base.specs.Plane.{HalfEdge};
-ghost use Rattle.plate_covers.specs.Shares.{IsShare, LastEndsAt};
+ghost use Rattle.plate_sides.specs.ComponentCovers.{IsComponentCover, LastEndsAt};
 ghost use Rattle.half_edges.specs.Numbers.{IsSide};
 ghost use Rattle.half_edges.specs.Burns.{IsBurnt, with_burnt};
-ghost use Rattle.face_nesting.specs.Nesting.{AreOuterRings, ring_at};
+ghost use Rattle.face_nesting.specs.Nesting.{AreOuterCycles, cycle_at};
 ghost use Rattle.oe_cover.specs.Starts.{IsLawfulStart};
 ghost use Rattle.oe_cover.specs.Trails.{IsOf, trails_by};
 
@@ -28,11 +28,11 @@ pub fn cover_component(
     c: Component,
     start: Side,
 ) -> Result<Plan, OutOfMemory>
-    requires rings { AreOuterRings graph.old faces.now }
+    requires cycles { AreOuterCycles graph.old faces.now }
     requires within { c.0 < length graph.old.marks }
     requires unburnt { (s : ℕ) → IsOf graph.old c.0 s → IsBurnt graph.old s → ⊥ }
-    requires start { IsLawfulStart graph.old (ring_at faces.now c.0) start.0 }
-    ensures share { IfOk result (λ plan. (mark : Point) → slice_get graph.old.marks c.0 ≡ Some mark → IsShare graph.old.edges mark (trails_by graph.old.edges plan)) }
+    requires start { IsLawfulStart graph.old (cycle_at faces.now c.0) start.0 }
+    ensures component_cover { IfOk result (λ plan. (mark : Point) → slice_get graph.old.marks c.0 ≡ Some mark → IsComponentCover graph.old.edges mark (trails_by graph.old.edges plan)) }
     ensures ends { IfOk result (λ plan. (h : HalfEdge) → IsSide graph.old.edges start.0 h → LastEndsAt (trails_by graph.old.edges plan) h.from) }
     ensures burnt { OnOk result ((s : ℕ) → IsBurnt graph.new s ↔ (IsBurnt graph.old s ⊎ IsOf graph.old c.0 s)) }
     ensures same { graph.new ≡ with_burnt graph.old graph.new.burnt }

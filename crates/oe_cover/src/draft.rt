@@ -1,8 +1,9 @@
 //! A plan while it is made.
 ghost use Rattle.std.specs.Prelude.{◌≡◌, ◌≤◌, ◌<◌, ◌+◌, ◌∷◌, [], ◌++◌, ℕ, length, All, IfOk, drop};
 ghost use Rattle.half_edges.specs.Numbers.{half_edges_of};
-ghost use Rattle.half_edges.specs.Graph.{rotation_of};
-ghost use Rattle.face_nesting.specs.Numbering.{numbers_of};
+ghost use Rattle.half_edges.specs.Graph.{rotations_of};
+ghost use Rattle.nest_base.specs.NumberLists.{side_numbers};
+ghost use Rattle.nest_base.specs.Limits.{most_edges};
 ghost use Rattle.cover_walks.specs.Chains.{chains_of};
 ghost use Rattle.oe_cover.specs.ChainEnds.{chain_length};
 ghost use Rattle.oe_cover.specs.Drafts.{IsDraft, chains_in};
@@ -34,9 +35,9 @@ impl Draft {
 
     /// Appends a chain.
     fn push_chain(&mut self, chain: &[Side])
-        requires known { (room : ℕ) × IsDraft room self.old × (room ≤ 2000000) × (length self.old.sides.items + length chain.now ≤ room) }
+        requires known { (room : ℕ) × IsDraft room self.old × (room ≤ most_edges) × (length self.old.sides.items + length chain.now ≤ room) }
         requires some { 0 < length chain.now }
-        ensures chains { chains_in self.new ≡ chains_in self.old ++ numbers_of chain.now ∷ [] }
+        ensures chains { chains_in self.new ≡ chains_in self.old ++ side_numbers chain.now ∷ [] }
         ensures sides { self.new.sides.items ≡ self.old.sides.items ++ chain.now }
         ensures room { (room : ℕ) → IsDraft room self.old → IsDraft room self.new }
     {
@@ -46,9 +47,9 @@ impl Draft {
 
     /// Appends an order, cut where a half-edge doesn't leave the vertex to which the one before it leads.
     pub fn push_order(&mut self, graph: &PlaneGraph, order: &[Side])
-        requires known { (room : ℕ) × IsDraft room self.old × (room ≤ 2000000) × (length self.old.sides.items + length order.now ≤ room) }
+        requires known { (room : ℕ) × IsDraft room self.old × (room ≤ most_edges) × (length self.old.sides.items + length order.now ≤ room) }
         requires within { All (λ s. s.0 < length (half_edges_of graph.now.edges)) order.now }
-        ensures chains { chains_in self.new ≡ chains_in self.old ++ chains_of (rotation_of graph.now) (numbers_of order.now) }
+        ensures chains { chains_in self.new ≡ chains_in self.old ++ chains_of (rotations_of graph.now) (side_numbers order.now) }
         ensures sides { self.new.sides.items ≡ self.old.sides.items ++ order.now }
         ensures room { (room : ℕ) → IsDraft room self.old → IsDraft room self.new }
     {
@@ -65,7 +66,7 @@ impl Draft {
 fn chain_end(graph: &PlaneGraph, order: &[Side], first: usize) -> usize
     requires within { All (λ s. s.0 < length (half_edges_of graph.now.edges)) order.now }
     requires some { first < length order.now }
-    ensures long { result ≡ first + chain_length (rotation_of graph.now) (drop first (numbers_of order.now)) }
+    ensures long { result ≡ first + chain_length (rotations_of graph.now) (drop first (side_numbers order.now)) }
     ensures bound { result ≤ length order.now }
 {
     let mut last = first;

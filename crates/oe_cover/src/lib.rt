@@ -17,8 +17,6 @@ mod draft;
 pub mod plan;
 mod planner;
 pub mod start;
-#[cfg(test)]
-mod tests;
 
 pub use all::cover_all;
 pub use component::cover_component;

@@ -1,6 +1,6 @@
 //! The plan, and what is read of it.
 ghost use Rattle.std.specs.Prelude.{◌≡◌, ◌<◌, length, slice_get, Some};
-ghost use Rattle.face_nesting.specs.Numbering.{numbers_of};
+ghost use Rattle.nest_base.specs.NumberLists.{side_numbers};
 ghost use Rattle.oe_cover.specs.Pieces.{AreEnds, begins_at};
 ghost use Rattle.oe_cover.specs.Drafts.{chains_in};
 
@@ -19,12 +19,12 @@ pub struct Plan {
 
 impl Model for Plan {
     ghost use Rattle.std.specs.Prelude.{List, ℕ, length};
-    ghost use Rattle.face_nesting.specs.Numbering.{numbers_of};
+    ghost use Rattle.nest_base.specs.NumberLists.{side_numbers};
     ghost use Rattle.oe_cover.specs.Pieces.{pieces, AreEnds};
 
     ghost Value = { List (List ℕ) };
 
-    ghost view = { λ p. pieces (numbers_of p.sides.items) 0 p.ends.items };
+    ghost view = { λ p. pieces (side_numbers p.sides.items) 0 p.ends.items };
 
     ghost invariant = { λ p. AreEnds 0 p.ends.items (length p.sides.items) };
 }
@@ -51,7 +51,7 @@ impl Plan {
     /// The chain at place `index`.
     pub fn chain(&self, index: usize) -> &[Side]
         requires { index < length self.now }
-        ensures chain { slice_get self.now index ≡ Some (numbers_of result.now) }
+        ensures chain { slice_get self.now index ≡ Some (side_numbers result.now) }
         ensures some { 0 < length result.now }
     {
         let first = beginning(&self.ends, index);

@@ -4,7 +4,7 @@ ghost use Rattle.half_edges.specs.Numbers.{half_edges_of};
 ghost use Rattle.half_edges.specs.Graph.{Graph};
 ghost use Rattle.component_route.specs.States.{IsUnburnt};
 ghost use Rattle.oe_cover.specs.Drafts.{chains_in};
-ghost use Rattle.oe_cover.specs.Planning.{IsPlanning, IsCovered, NothingPlanned};
+ghost use Rattle.oe_cover.specs.Planning.{IsPlanning, HasAppended, NothingPlanned};
 
 use crate::draft::Draft;
 use crate::plan::Plan;
@@ -39,7 +39,7 @@ impl Planner {
         requires start { start.0 < length (half_edges_of graph.old.edges) }
         requires unburnt { IsUnburnt graph.old start.0 }
         ensures ready { (o : Graph) → IsPlanning o graph.old self.old → IsPlanning o graph.new self.new }
-        ensures covered { (o : Graph) → IsPlanning o graph.old self.old → IsCovered o start.0 self.old self.new }
+        ensures covered { (o : Graph) → IsPlanning o graph.old self.old → HasAppended o start.0 self.old self.new }
     {
         cover(graph, &mut self.route, start);
         self.draft.push_order(graph, self.route.order());

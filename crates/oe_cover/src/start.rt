@@ -2,12 +2,12 @@
 ghost use Rattle.std.specs.Prelude.{◌≡◌, ◌<◌, ◌↔◌, length, slice_get, Some, All, IfSome, IfNone, IsTrue};
 ghost use Rattle.nest_base.specs.declared.places.Point.{Point};
 ghost use Rattle.nest_base.specs.Plane.{HalfEdge};
-ghost use Rattle.plate_covers.specs.Starts.{IsStart};
+ghost use Rattle.plate_sides.specs.Starts.{IsStart};
 ghost use Rattle.half_edges.specs.Numbers.{half_edges_of, IsSide};
 ghost use Rattle.half_edges.specs.Graph.{origin_of};
 ghost use Rattle.half_edges.specs.PlaneGraphs.{IsPlaneGraph};
-ghost use Rattle.face_nesting.specs.Numbering.{numbers_of};
-ghost use Rattle.face_nesting.specs.Nesting.{AreOuterRings, ring_at};
+ghost use Rattle.nest_base.specs.NumberLists.{side_numbers};
+ghost use Rattle.face_nesting.specs.Nesting.{AreOuterCycles, cycle_at};
 ghost use Rattle.cover_plan.specs.Laws.{LeavesOdd};
 ghost use Rattle.oe_cover.specs.Starts.{FirstOddIs, IsFirstStart, IsLawfulStart};
 
@@ -39,7 +39,7 @@ fn comes_before(graph: &PlaneGraph, s: Side, first: Option<Side>) -> bool
 /// Of half-edges the one that leaves an odd vertex; of several the one whose vertex comes first, and at one vertex the first one.
 fn first_odd(graph: &PlaneGraph, sides: &[Side]) -> Option<Side>
     requires { All (λ s. s.0 < length (half_edges_of graph.now.edges)) sides.now }
-    ensures { FirstOddIs graph.now (numbers_of sides.now) result }
+    ensures { FirstOddIs graph.now (side_numbers sides.now) result }
 {
     let mut first = None;
     for s in sides {
@@ -55,11 +55,11 @@ fn first_odd(graph: &PlaneGraph, sides: &[Side]) -> Option<Side>
 ///
 /// Takes **O(n)** for n outer sides.
 pub fn first_start(graph: &PlaneGraph, faces: &Faces, c: Component) -> Side
-    requires rings { AreOuterRings graph.now faces.now }
+    requires cycles { AreOuterCycles graph.now faces.now }
     requires as_many { length faces.now.parents ≡ length graph.now.marks }
     requires within { c.0 < length graph.now.marks }
-    ensures first { IsFirstStart graph.now (ring_at faces.now c.0) result.0 }
-    ensures lawful { IsLawfulStart graph.now (ring_at faces.now c.0) result.0 }
+    ensures first { IsFirstStart graph.now (cycle_at faces.now c.0) result.0 }
+    ensures lawful { IsLawfulStart graph.now (cycle_at faces.now c.0) result.0 }
     ensures start { IsPlaneGraph graph.now → (mark : Point) (h : HalfEdge) → slice_get graph.now.marks c.0 ≡ Some mark → IsSide graph.now.edges result.0 h → IsStart graph.now.edges mark h }
     ensures within { result.0 < length (half_edges_of graph.now.edges) }
 {

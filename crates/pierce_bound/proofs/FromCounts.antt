@@ -2,10 +2,10 @@
 use Rattle.std.proofs.Common.{arith, ℕ, ◌-◌, ◌/◌, ◌<◌, [], ◌∷◌, List, refl, sym, ap}
 use Rattle.nest_base.specs.declared.places.Point.{Point}
 use Rattle.nest_base.specs.declared.places.Edge.{Edge}
-use Rattle.plate_covers.specs.Limit.{IsLimit, no_odd as no_odd_limit, outer_odd, inner_odd}
-use Rattle.plate_covers.specs.Starts.{HasOddOuter}
-use Rattle.pierce_bound.specs.Bound.{IsBound, no_odd, some_odd}
-use Rattle.pierce_bound.specs.Counts.{HasOddCount}
+use Rattle.plate_sides.specs.Limit.{IsLimit, no_odd as no_odd_limit, outer_odd, inner_odd}
+use Rattle.plate_sides.specs.Starts.{HasOddOuter}
+use Rattle.plate_sides.specs.Bound.{IsBound, no_odd, some_odd}
+use Rattle.plate_sides.specs.OddCounts.{HasOddCount}
 
 module _ (edges : List Edge) (mark : Point) where
   pub bound_none : HasOddCount edges mark 0 → IsBound edges mark 1

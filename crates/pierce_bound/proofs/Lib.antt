@@ -1,9 +1,6 @@
-pub mod Ends
-pub mod Tips
-pub mod Undercut
-pub mod Bounds
 pub mod Tallies
 pub mod Counted
 pub mod OuterOdd
 pub mod Summed
 pub mod FromCounts
+pub mod NoFewer

@@ -6,23 +6,23 @@ use Rattle.std.proofs.lemmas.Option.{slice_get_within, slice_get-get_or}
 use Rattle.nest_base.specs.declared.places.Point.{Point}
 use Rattle.nest_base.specs.declared.places.Edge.{Edge}
 use Rattle.nest_base.specs.declared.numbers.Side.{Side}
-use Rattle.plate_sides.specs.Sides.{IsVertex}
+use Rattle.plate_sides.specs.HalfEdges.{IsVertex}
 use Rattle.plate_sides.specs.Components.{SameComponent}
 use Rattle.plate_sides.specs.Links.{IsOuterVertex}
 use Rattle.plate_nesting.proofs.Components.{outer_side_is_in}
-use Rattle.plate_covers.specs.Odd.{IsOdd}
-use Rattle.plate_covers.specs.Starts.{HasOddOuter}
+use Rattle.plate_sides.specs.Odd.{IsOdd}
+use Rattle.plate_sides.specs.Starts.{HasOddOuter}
 use Rattle.half_edges.specs.Numbers.{half_edges_of, IsSide}
 use Rattle.half_edges.specs.Graph.{Graph, origin_of}
 use Rattle.half_edges.specs.PlaneGraphs.{IsPlaneGraph}
-use Rattle.half_edges.proofs.Items.{read_below, one_read, read-map, Contains-from_read, read_from_Contains}
-use Rattle.face_nesting.specs.Numbering.{numbers_of}
+use Rattle.nest_base.proofs.ListReads.{read_below, one_read, read-map, Contains-from_read, read_from_Contains}
+use Rattle.nest_base.specs.NumberLists.{side_numbers}
 use Rattle.face_nesting.specs.Nesting.{AreOuterSides}
 use Rattle.face_nesting.proofs.Zips.{zip_second}
 use Rattle.cover_plan.proofs.OuterNumbers.{vertex_told}
 
 -- the number of the half-edge at a place
-pub number_at : (sides : List Side) (k : ℕ) (d : Side) → k < length sides → slice_get (numbers_of sides) k ≡ Some (slice_index_or sides k d).0
+pub number_at : (sides : List Side) (k : ℕ) (d : Side) → k < length sides → slice_get (side_numbers sides) k ≡ Some (slice_index_or sides k d).0
 number_at sides k d within = read-map (λ (s : Side). s.0) sides k (slice_index_or sides k d) (slice_get-get_or sides k d within)
 
 -- outer sides are half-edges

@@ -1,27 +1,25 @@
 -- The bounds of components, added up.
-use Rattle.std.proofs.Common.{arith, ◌≡◌, inl, inr, ℕ, zero, suc, ◌+◌, ◌<◌, ◌≤◌, cond, List, [], ◌∷◌, ◌++◌, length, take, ap}
+use Rattle.std.proofs.Common.{arith, ◌≡◌, inl, inr, ℕ, zero, suc, ◌+◌, ◌≤◌, cond, List, [], ◌∷◌, ◌++◌, length, take, ap}
 use Rattle.std.specs.Prelude.{Some, slice_get, sum, ◌==◌}
 use Rattle.std.specs.List.{AllZip}
 use Rattle.std.proofs.lemmas.Bool.{cases_eq, eq-eqb, ne_eqb}
 use Rattle.std.proofs.lemmas.List.Sums.{sum_by_push}
 use Rattle.nest_base.specs.declared.places.Point.{Point}
 use Rattle.nest_base.specs.declared.places.Edge.{Edge}
-use Rattle.plate_covers.specs.Odd.{AreOddVertices}
-use Rattle.half_edges.specs.Rotation.{total}
-use Rattle.half_edges.specs.Graph.{Graph, rotation_of, part_of}
+use Rattle.nest_base.specs.Limits.{most_half_edges}
+use Rattle.plate_sides.specs.Odd.{AreOddVertices}
+use Rattle.rotation_systems.specs.RotationSystem.{total}
+use Rattle.half_edges.specs.Graph.{Graph, rotations_of, component_of}
 use Rattle.half_edges.specs.PlaneGraphs.{IsPlaneGraph}
 use Rattle.half_edges.proofs.GraphSizes.{length-vertices-le}
 use Rattle.face_nesting.proofs.Prefixes.{AllZip-one_more}
 use Rattle.cover_walks.specs.Walks.{odd_count}
+use Rattle.cover_walks.proofs.Numbers.{total_none}
 use Rattle.cover_plan.proofs.OddVertices.{odd_vertices}
-use Rattle.pierce_bound.specs.Bound.{IsBound, no_odd, some_odd}
-use Rattle.pierce_bound.proofs.Bounds.{same_many}
+use Rattle.plate_sides.specs.Bound.{IsBound, no_odd, some_odd}
+use Rattle.plate_plans.proofs.OneBound.{same_many}
 use Rattle.pierce_bound.proofs.Counted.{odd_at, odd-le}
 use Rattle.pierce_bound.proofs.Tallies.{counted_for, total_more}
-
-total_zero : (f : ℕ → ℕ) (n : ℕ) → ((k : ℕ) → k < n → f k ≡ 0) → total f n ≡ 0
-total_zero f zero none = omega arith
-total_zero f (suc n) none = omega (arith, none n (omega arith), total_zero f n (λ k below. none k (omega (arith, below))))
 
 total_plus : (f g : ℕ → ℕ) (n : ℕ) → total (λ k. f k + g k) n ≡ total f n + total g n
 total_plus f g zero = omega arith
@@ -33,7 +31,7 @@ one_place p w zero = omega arith
 one_place p w (suc n) = elim (cases_eq p n) [
   | inl is ↦
       let here : cond (p == n) w 0 ≡ w = ap (λ b. cond b w 0) (eq-eqb p n is) in
-      let none : total (λ d. cond (p == d) w 0) n ≡ 0 = total_zero (λ d. cond (p == d) w 0) n (λ k below. ap (λ b. cond b w 0) (ne_eqb p k (λ e. omega (arith, e, is, below)))) in
+      let none : total (λ d. cond (p == d) w 0) n ≡ 0 = total_none (λ d. cond (p == d) w 0) n (λ k below. ap (λ b. cond b w 0) (ne_eqb p k (λ e. omega (arith, e, is, below)))) in
       omega (arith, here, none)
   | inr other ↦
       let elsewhere : cond (p == n) w 0 ≡ 0 = ap (λ b. cond b w 0) (ne_eqb p n other) in
@@ -42,7 +40,7 @@ one_place p w (suc n) = elim (cases_eq p n) [
 
 -- so what n things count for m places is no more than n, where each counts at most 1
 all_few : (place weight : ℕ → ℕ) (n m : ℕ) → ((k : ℕ) → weight k ≤ 1) → total (λ d. total (counted_for place weight d) n) m ≤ n
-all_few place weight zero m few = omega (arith, total_zero (λ d. total (counted_for place weight d) zero) m (λ k below. omega arith))
+all_few place weight zero m few = omega (arith, total_none (λ d. total (counted_for place weight d) zero) m (λ k below. omega arith))
 all_few place weight (suc n) m few =
     omega (
       arith,
@@ -54,10 +52,10 @@ all_few place weight (suc n) m few =
 
 -- the odd vertices of the first c components
 abbrev pub odd_so_far : Graph → ℕ → ℕ
-odd_so_far graph c = total (λ d. odd_count (rotation_of graph) (part_of graph) d (length graph.vertices) []) c
+odd_so_far graph c = total (λ d. odd_count (rotations_of graph) (component_of graph) d (length graph.vertices) []) c
 
 pub odd_so_far-le : (graph : Graph) (c : ℕ) → odd_so_far graph c ≤ length graph.vertices
-odd_so_far-le graph c = all_few (part_of graph) (odd_at graph) (length graph.vertices) c (odd-le graph)
+odd_so_far-le graph c = all_few (component_of graph) (odd_at graph) (length graph.vertices) c (odd-le graph)
 
 -- a bound is no more than the number of odd vertices, or 1
 bound-le : (edges : List Edge) (mark : Point) (n : ℕ) (odd : List Point) → IsBound edges mark n → AreOddVertices edges mark odd → n ≤ 1 + length odd
@@ -85,11 +83,11 @@ one_more_bound graph c sum_so_far n mark plane are at is =
         are.few,
         bound-le graph.edges mark n odd is are_odd,
         is_many,
-        total_more (λ d. odd_count (rotation_of graph) (part_of graph) d (length graph.vertices) []) c,
+        total_more (λ d. odd_count (rotations_of graph) (component_of graph) d (length graph.vertices) []) c,
       );
     }
 
 -- the sum is small
-pub summed_few : (graph : Graph) (c sum_so_far : ℕ) → IsPlaneGraph graph → AreSummed graph c sum_so_far → sum_so_far ≤ c + 4000000
+pub summed_few : (graph : Graph) (c sum_so_far : ℕ) → IsPlaneGraph graph → AreSummed graph c sum_so_far → sum_so_far ≤ c + most_half_edges
 summed_few graph c sum_so_far plane are =
     omega (arith, are.few, odd_so_far-le graph c, plane.few, length-vertices-le graph.edges graph.vertices plane.are_vertices)

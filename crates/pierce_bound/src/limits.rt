@@ -3,11 +3,11 @@ ghost use Rattle.std.specs.Prelude.{◌≡◌, ◌<◌, ℕ, List, IsTrue, false
 ghost use Rattle.std.specs.List.{AllZip};
 ghost use Rattle.nest_base.specs.declared.places.Point.{Point};
 ghost use Rattle.nest_base.specs.declared.places.Edge.{Edge};
-ghost use Rattle.plate_covers.specs.Limit.{IsLimit};
-ghost use Rattle.plate_covers.specs.Starts.{HasOddOuter};
-ghost use Rattle.face_nesting.specs.Nesting.{AreOuterRings};
-ghost use Rattle.pierce_bound.specs.Bound.{IsBound};
-ghost use Rattle.pierce_bound.specs.Counts.{HasOddCount};
+ghost use Rattle.plate_sides.specs.Limit.{IsLimit};
+ghost use Rattle.plate_sides.specs.Starts.{HasOddOuter};
+ghost use Rattle.face_nesting.specs.Nesting.{AreOuterCycles};
+ghost use Rattle.plate_sides.specs.Bound.{IsBound, NoCoverHasFewerIn, NoCoverHasFewer};
+ghost use Rattle.plate_sides.specs.OddCounts.{HasOddCount};
 
 use crate::odd::{has_odd_outer, odd_count};
 use crate::plane::graph_is_plane;
@@ -42,8 +42,10 @@ pub fn limit_of(odd: u32, has_outer: bool) -> u32
 ///
 /// Takes **O(n)** for the n vertices of the graph, and no memory.
 pub fn bound(graph: &PlaneGraph, c: Component) -> u32
-    ensures { (mark : Point) → slice_get graph.now.marks c.0 ≡ Some mark → IsBound graph.now.edges mark result }
+    ensures bound { (mark : Point) → slice_get graph.now.marks c.0 ≡ Some mark → IsBound graph.now.edges mark result }
+    ensures none_undercuts { (mark : Point) → slice_get graph.now.marks c.0 ≡ Some mark → NoCoverHasFewerIn graph.now.edges mark result }
 {
+    graph_is_plane(graph);
     bound_of(odd_count(graph, c))
 }
 
@@ -53,7 +55,7 @@ pub fn bound(graph: &PlaneGraph, c: Component) -> u32
 pub fn limit(graph: &PlaneGraph, faces: &Faces, c: Component) -> u32
     requires component { c.0 < length graph.now.marks }
     requires parents { length faces.now.parents ≡ length graph.now.marks }
-    requires outer_rings { AreOuterRings graph.now faces.now }
+    requires outer_cycles { AreOuterCycles graph.now faces.now }
     ensures { (mark : Point) → slice_get graph.now.marks c.0 ≡ Some mark → IsLimit graph.now.edges mark result }
 {
     limit_of(odd_count(graph, c), has_odd_outer(graph, faces, c))
@@ -63,7 +65,8 @@ pub fn limit(graph: &PlaneGraph, faces: &Faces, c: Component) -> u32
 ///
 /// Takes **O(kn)** for k components and n vertices, and no memory.
 pub fn total_bound(graph: &PlaneGraph) -> u32
-    ensures { (bounds : List ℕ) × AllZip (IsBound graph.now.edges) graph.now.marks bounds × (result ≡ sum bounds) }
+    ensures bounds { (bounds : List ℕ) × AllZip (IsBound graph.now.edges) graph.now.marks bounds × (result ≡ sum bounds) }
+    ensures none_undercuts { NoCoverHasFewer graph.now.edges result }
 {
     graph_is_plane(graph);
     let mut total = 0;

@@ -1,19 +1,17 @@
 //! The odd vertices of components, counted.
-ghost use Rattle.std.specs.Prelude.{◌≡◌, ◌↔◌, ◌<◌, ◌%◌, [], IsTrue, false, IfOk, Some, length, slice_get};
-ghost use Rattle.std.specs.List.{AllZip};
+ghost use Rattle.std.specs.Prelude.{◌≡◌, ◌↔◌, ◌<◌, ◌%◌, [], IsTrue, false, Some, length, slice_get};
 ghost use Rattle.nest_base.specs.declared.places.Point.{Point};
-ghost use Rattle.plate_covers.specs.Odd.{IsOdd};
-ghost use Rattle.plate_covers.specs.Starts.{HasOddOuter};
-ghost use Rattle.half_edges.specs.Graph.{rotation_of, part_of};
-ghost use Rattle.face_nesting.specs.Nesting.{AreOuterRings};
+ghost use Rattle.plate_sides.specs.Odd.{IsOdd};
+ghost use Rattle.plate_sides.specs.Starts.{HasOddOuter};
+ghost use Rattle.half_edges.specs.Graph.{rotations_of, component_of};
+ghost use Rattle.face_nesting.specs.Nesting.{AreOuterCycles};
 ghost use Rattle.cover_walks.specs.Walks.{odd_within as odd_by_definition};
-ghost use Rattle.pierce_bound.specs.Counts.{HasOddCount};
+ghost use Rattle.plate_sides.specs.OddCounts.{HasOddCount};
 
 use crate::plane::graph_is_plane;
 use face_nesting::Faces;
 use half_edges::PlaneGraph;
-use nest_base::{Component, OutOfMemory, VertexId};
-use std::alloc::Global;
+use nest_base::{Component, VertexId};
 
 /// Whether an odd number of edges end at a vertex. **O(1).**
 fn is_odd(graph: &PlaneGraph, v: VertexId) -> bool
@@ -27,7 +25,7 @@ fn is_odd(graph: &PlaneGraph, v: VertexId) -> bool
 /// 1 for an odd vertex of the component, 0 for each other vertex. **O(1).**
 fn odd_within(graph: &PlaneGraph, c: Component, v: VertexId) -> u32
     requires { v.0 < length graph.now.vertices }
-    ensures { result ≡ odd_by_definition (rotation_of graph.now) (part_of graph.now) c.0 [] v.0 }
+    ensures { result ≡ odd_by_definition (rotations_of graph.now) (component_of graph.now) c.0 [] v.0 }
 {
     if graph.component_of(v) == c {
         graph.degree(v) % 2
@@ -50,28 +48,13 @@ pub fn odd_count(graph: &PlaneGraph, c: Component) -> u32
     count
 }
 
-/// How many odd vertices each component has.
-///
-/// Takes **O(n)** for n vertices, in one pass over them. `OutOfMemory` comes for want of memory alone.
-pub fn odd_counts(alloc: Global, graph: &PlaneGraph) -> Result<Vec<u32>, OutOfMemory>
-    ensures { IfOk result (λ counts. AllZip (HasOddCount graph.now.edges) graph.now.marks counts.items) }
-{
-    graph_is_plane(graph);
-    let mut counts = vec![in alloc; 0; graph.component_count() as usize]?;
-    for v in 0..graph.vertex_count() {
-        let vertex = VertexId(v);
-        counts[graph.component_of(vertex).0 as usize] += graph.degree(vertex) % 2;
-    }
-    Ok(counts)
-}
-
 /// Whether some outer vertex of a component is odd.
 ///
 /// Takes **O(n)** for n outer sides, and no memory.
 pub fn has_odd_outer(graph: &PlaneGraph, faces: &Faces, c: Component) -> bool
     requires component { c.0 < length graph.now.marks }
     requires parents { length faces.now.parents ≡ length graph.now.marks }
-    requires outer_rings { AreOuterRings graph.now faces.now }
+    requires outer_cycles { AreOuterCycles graph.now faces.now }
     ensures some { IsTrue result → (mark : Point) → slice_get graph.now.marks c.0 ≡ Some mark → HasOddOuter graph.now.edges mark }
     ensures none { result ≡ false → (mark : Point) → slice_get graph.now.marks c.0 ≡ Some mark → HasOddOuter graph.now.edges mark → ⊥ }
 {

@@ -1,4 +1,6 @@
 pub mod Totals
+pub mod Tallies
+pub mod OddCounts
 pub mod ByComponent
 pub mod RowLists
 pub mod RowLines

@@ -4,7 +4,7 @@ use Rattle.std.specs.Prelude.{Some, slice_get, sum}
 use Rattle.std.specs.List.{AllZip}
 use Rattle.std.proofs.lemmas.List.{map_push}
 use Rattle.std.proofs.lemmas.List.Sums.{sum_by_push}
-use Rattle.half_edges.proofs.Items.{one_read}
+use Rattle.nest_base.proofs.ListReads.{one_read}
 use Rattle.face_nesting.proofs.Prefixes.{take_read}
 use Rattle.face_nesting.proofs.Zips.{zip_second}
 use Rattle.pierce_report.specs.declared.rows.Numbers.{Numbers}

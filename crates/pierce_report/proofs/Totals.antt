@@ -2,7 +2,7 @@
 use Rattle.std.proofs.Common.{arith, ◌≡◌, ◌⊎◌, inl, inr, ℕ, zero, suc, ◌+◌, List, [], ◌∷◌, length, refl}
 use Rattle.std.specs.Prelude.{Some, slice_get}
 use Rattle.nest_base.specs.Selection.{none, taken, passed, HasCount}
-use Rattle.half_edges.specs.Rotation.{total}
+use Rattle.rotation_systems.specs.RotationSystem.{total}
 
 total_from_first : (f : ℕ → ℕ) (n : ℕ) → total f (suc n) ≡ f 0 + total (λ k. f (suc k)) n
 total_from_first f zero = omega arith

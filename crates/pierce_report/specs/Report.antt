@@ -6,10 +6,10 @@ use Rattle.nest_base.specs.declared.places.Point.{Point}
 use Rattle.nest_base.specs.declared.places.Edge.{Edge}
 use Rattle.nest_base.specs.Selection.{HasCount}
 use Rattle.plate_sides.specs.Components.{IsIn, AreMarks}
-use Rattle.plate_sides.specs.Sides.{forth}
-use Rattle.plate_covers.specs.Odd.{AreOddVertices}
-use Rattle.plate_covers.specs.Limit.{IsLimit}
-use Rattle.pierce_bound.specs.Bound.{IsBound}
+use Rattle.plate_sides.specs.HalfEdges.{forth}
+use Rattle.plate_sides.specs.Odd.{AreOddVertices}
+use Rattle.plate_sides.specs.Limit.{IsLimit}
+use Rattle.plate_sides.specs.Bound.{IsBound}
 
 -- the numbers of one component
 pub record Row : Type 0 where

@@ -7,8 +7,6 @@
 pub mod counts;
 pub mod reporting;
 pub mod rows;
-#[cfg(test)]
-mod tests;
 pub mod text;
 
 pub use reporting::report;

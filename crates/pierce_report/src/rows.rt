@@ -2,17 +2,18 @@
 ghost use Rattle.std.specs.Prelude.{◌≡◌, ◌<◌, ◌≤◌, ℕ, IfOk, Some, length, map, slice_get};
 ghost use Rattle.std.specs.List.{AllZip};
 ghost use Rattle.nest_base.specs.declared.places.Point.{Point};
-ghost use Rattle.face_nesting.specs.Nesting.{AreOuterRings};
-ghost use Rattle.pierce_bound.specs.Counts.{HasOddCount};
+ghost use Rattle.nest_base.specs.Limits.{most_half_edges};
+ghost use Rattle.face_nesting.specs.Nesting.{AreOuterCycles};
+ghost use Rattle.plate_sides.specs.OddCounts.{HasOddCount};
 ghost use Rattle.pierce_report.specs.declared.rows.Numbers.{Numbers};
 ghost use Rattle.pierce_report.specs.Report.{Row, IsRowOf, total_bound as bound_in_all};
 ghost use Rattle.pierce_report.specs.Rows.{HasEdgeCount, row_of, rows_of};
 
-use crate::counts::edge_counts;
+use crate::counts::{edge_counts, odd_counts};
 use face_nesting::Faces;
 use half_edges::PlaneGraph;
 use nest_base::{Component, OutOfMemory};
-use pierce_bound::{bound_of, has_odd_outer, limit_of, odd_counts};
+use pierce_bound::{bound_of, has_odd_outer, limit_of};
 use std::alloc::Global;
 
 /// What the report says of one component.
@@ -40,7 +41,7 @@ fn numbers_of(
 ) -> Numbers
     requires component { c.0 < length graph.now.marks }
     requires parents { length faces.now.parents ≡ length graph.now.marks }
-    requires outer_rings { AreOuterRings graph.now faces.now }
+    requires outer_cycles { AreOuterCycles graph.now faces.now }
     ensures row { (mark : Point) → slice_get graph.now.marks c.0 ≡ Some mark → HasEdgeCount graph.now.edges mark edges →
         HasOddCount graph.now.edges mark odd → IsRowOf graph.now.edges mark (row_of result) }
     ensures pierces { result.pierces ≡ pierces }
@@ -65,10 +66,10 @@ pub fn all_numbers(
 ) -> Result<Vec<Numbers>, OutOfMemory>
     requires as_many { length pierces.now ≡ length graph.now.marks }
     requires parents { length faces.now.parents ≡ length graph.now.marks }
-    requires outer_rings { AreOuterRings graph.now faces.now }
+    requires outer_cycles { AreOuterCycles graph.now faces.now }
     ensures rows { IfOk result (λ rows. AllZip (λ mark n. IsRowOf graph.now.edges mark (row_of n)) graph.now.marks rows.items) }
     ensures pierces { IfOk result (λ rows. map (λ n. n.pierces) rows.items ≡ pierces.now) }
-    ensures few { IfOk result (λ rows. length rows.items ≤ 4000000) }
+    ensures few { IfOk result (λ rows. length rows.items ≤ most_half_edges) }
 {
     let edges = edge_counts(alloc, graph)?;
     let odd = odd_counts(alloc, graph)?;
@@ -83,7 +84,7 @@ pub fn all_numbers(
 
 /// The sum of the bounds of all components.
 pub fn total_bound(rows: &[Numbers]) -> usize
-    requires { length rows.now ≤ 4000000 }
+    requires { length rows.now ≤ most_half_edges }
     ensures { result ≡ bound_in_all (rows_of rows.now) }
 {
     let mut total = 0;

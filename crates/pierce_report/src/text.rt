@@ -1,7 +1,7 @@
 //! The text of the report.
-ghost use Rattle.std.specs.Prelude.{◌≡◌, ◌++◌, codes, decimal, if◌then◌else◌, OnOk};
+ghost use Rattle.std.specs.Prelude.{◌≡◌, ◌++◌, decimal, OnOk};
 ghost use Rattle.pierce_report.specs.Report.{row_text, rows_text};
-ghost use Rattle.pierce_report.specs.Rows.{row_of, rows_of, totals_text};
+ghost use Rattle.pierce_report.specs.Rows.{row_of, rows_of, totals_text, verdict_text};
 
 use crate::rows::Numbers;
 use itoa::Buffer;
@@ -38,24 +38,22 @@ pub fn put_rows(rows: &[Numbers], out: &mut Text) -> Result<(), OutOfMemory>
     Ok(())
 }
 
-/// What the report says in the end: whether the pierces are shown to be the fewest.
-fn verdict(is_fewest: bool) -> &'static [u8]
-    ensures { result.now ≡ (if is_fewest then codes "fewest" else codes "not shown fewest") }
-{
-    if is_fewest {
-        b"fewest"
-    } else {
-        b"not shown fewest"
-    }
-}
-
-/// Appends the last two lines: so many pierces in all, the sum of the bounds, and whether these are as many.
+/// Appends the line of so many pierces in all, and the sum of the bounds.
 pub fn put_totals(pierces: usize, bound: usize, out: &mut Text) -> Result<(), OutOfMemory>
     ensures { OnOk result (out.new ≡ out.old ++ totals_text pierces bound) }
 {
     put_number(b"total pierces ", pierces, out)?;
     put_number(b" bound ", bound, out)?;
-    out.push(b'\n')?;
-    out.append(verdict(pierces == bound))?;
     out.push(b'\n')
+}
+
+/// Appends the last line: whether the pierces are shown to be the fewest.
+pub fn put_verdict(is_fewest: bool, out: &mut Text) -> Result<(), OutOfMemory>
+    ensures { OnOk result (out.new ≡ out.old ++ verdict_text is_fewest) }
+{
+    if is_fewest {
+        out.append(b"fewest\n")
+    } else {
+        out.append(b"not shown fewest\n")
+    }
 }

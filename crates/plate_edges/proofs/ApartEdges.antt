@@ -11,9 +11,8 @@ use Rattle.nest_base.specs.Order.{IsBefore}
 use Rattle.nest_base.proofs.Directions.{cross_product-self}
 use Rattle.nest_base.proofs.Orders.{IsBefore-irrefl}
 use Rattle.nest_base.proofs.Points.{on_first, on_last}
-use Rattle.plate_edges.specs.Cuts.{IsParallel, IsCutPoint}
+use Rattle.plate_edges.specs.Cuts.{IsParallel, IsCutPoint, HasLength}
 use Rattle.plate_edges.specs.Edges.{IsInside, IsPieceOf, IsEdge, IsEdgeBefore, edge_of}
-use Rattle.plate_edges.specs.Cuts.{HasLength}
 use Rattle.plate_edges.specs.Laws.{ApartSegmentsAreTheirEdges}
 use Rattle.plate_edges.proofs.Lists.{pair_of, Contains-map, origin_in, AllPairs-map}
 use Rattle.plate_edges.proofs.Sorts.{Sorted, sorted}

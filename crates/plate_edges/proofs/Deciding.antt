@@ -7,7 +7,7 @@ use Rattle.nest_base.specs.declared.places.Edge.{Edge}
 use Rattle.nest_base.specs.Plane.{RationalPoint, IsAt, IsOn, IsBetween, cross_product, direction, numerators, scaled}
 use Rattle.nest_base.proofs.Lists.{Contains-head, Contains-later, Contains-cases, Contains-none}
 use Rattle.nest_base.proofs.Points.{same_place}
-use Rattle.segment_meeting.specs.Sides.{LieBeyond}
+use Rattle.segment_meeting.specs.Orientation.{LieBeyond}
 use Rattle.segment_meeting.proofs.Between.{between_or_beyond}
 use Rattle.segment_meeting.proofs.Factors.{same_or_not}
 use Rattle.plate_edges.specs.Points.{IsOnEdges, IsEndOfEdge}

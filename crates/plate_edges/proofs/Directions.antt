@@ -7,11 +7,11 @@ use Rattle.nest_base.specs.Plane.{rational, cross_product, direction, IsOn}
 use Rattle.nest_base.proofs.Differences.{diff_of, diff_same, diffs}
 use Rattle.nest_base.proofs.Directions.{cross_product-turned}
 use Rattle.nest_base.proofs.Points.{same_place, line_of_place, across_place, up_place}
-use Rattle.segment_meeting.specs.Sides.{side_of}
+use Rattle.segment_meeting.specs.Orientation.{orientation}
 use Rattle.segment_meeting.proofs.Between.{only_between}
-use Rattle.segment_meeting.proofs.Crossing.{side-second}
+use Rattle.segment_meeting.proofs.Crossing.{orientation-second}
 use Rattle.segment_meeting.proofs.Factors.{same_unless, zero_factor}
-use Rattle.segment_meeting.proofs.Lines.{side-seen}
+use Rattle.segment_meeting.proofs.Lines.{orientation-seen}
 use Rattle.segment_meeting.proofs.OnePoint.{across_x, across_y}
 
 -- the direction between two places that differ isn't zero
@@ -29,19 +29,19 @@ along_third d u v some h k =
     (λ apart. some (zero_factor (cross_product u v) d.x apart (omega (arith, ints, in_x))) (zero_factor (cross_product u v) d.y apart (omega (arith, ints, in_y))))
 
 -- a place of a segment lies on neither side of it
-pub side-place : (a b q : Point) → IsOn (rational q) a b → side_of a b q ≡ pos 0
-side-place a b q on = sym (side-seen a b q) ∙ line_of_place q a b on
+pub side-place : (a b q : Point) → IsOn (rational q) a b → orientation a b q ≡ pos 0
+side-place a b q on = sym (orientation-seen a b q) ∙ line_of_place q a b on
 
 -- where the ends of a segment are one place, that one alone lies on it
 pub only_place : (a b q : Point) → a ≡ b → IsOn (rational q) a b → q ≡ a
 only_place a b q same on = same_place (only_between a.x q.x b.x (ap (λ (p : Point). p.x) same) (across_place q a b on)) (only_between a.y q.y b.y (ap (λ (p : Point). p.y) same) (up_place q a b on))
 
 -- the way between two places of a line goes along it
-pub way_along : (a b p q : Point) → side_of a b p ≡ pos 0 → side_of a b q ≡ pos 0 → cross_product (direction a b) (direction p q) ≡ pos 0
-way_along a b p q h k = omega (arith, ints, h, k, side-second a b p q)
+pub way_along : (a b p q : Point) → orientation a b p ≡ pos 0 → orientation a b q ≡ pos 0 → cross_product (direction a b) (direction p q) ≡ pos 0
+way_along a b p q h k = omega (arith, ints, h, k, orientation-second a b p q)
 
 -- three places of one line are in line
-pub in_line : (a b p q r : Point) → a ≢ b → side_of a b p ≡ pos 0 → side_of a b q ≡ pos 0 → side_of a b r ≡ pos 0 → side_of p r q ≡ pos 0
+pub in_line : (a b p q r : Point) → a ≢ b → orientation a b p ≡ pos 0 → orientation a b q ≡ pos 0 → orientation a b r ≡ pos 0 → orientation p r q ≡ pos 0
 in_line a b p q r apart h k l = along_third (direction a b) (direction p r) (direction p q) (some_direction a b apart) (way_along a b p r h l) (way_along a b p q h k)
 
 -- where x lies of a line is where it lies of another place of the line

@@ -10,8 +10,8 @@ use Rattle.nest_base.specs.Plane.{RationalPoint, rational, scaled, numerators, c
 use Rattle.nest_base.specs.Order.{IsBefore}
 use Rattle.nest_base.proofs.Directions.{cross_product-turned}
 use Rattle.nest_base.proofs.Orders.{IsBefore-irrefl}
-use Rattle.segment_meeting.specs.Sides.{side_of}
-use Rattle.segment_meeting.proofs.Crossing.{side-second}
+use Rattle.segment_meeting.specs.Orientation.{orientation}
+use Rattle.segment_meeting.proofs.Crossing.{orientation-second}
 use Rattle.segment_meeting.proofs.Factors.{same_or_not, zero_factor}
 use Rattle.segment_meeting.proofs.Lines.{side-on}
 use Rattle.plate_edges.specs.Cuts.{HasLength, IsParallel, NoneCrossesOffLattice}
@@ -47,13 +47,13 @@ parallel_pieces segments e f s t h k parallel =
 
 -- two parallel parts with a common point are on one line
 on_one_line : (a b c d : Point) (p : RationalPoint) → c ≢ d → cross_product (direction a b) (direction c d) ≡ pos 0 → IsOn p a b → IsOn p c d →
-    side_of a b c ≡ pos 0
+    orientation a b c ≡ pos 0
 on_one_line a b c d p apart parallel on_ab on_cd =
     let way = direction (scaled c p.w) (numerators p) in
     let along : cross_product (direction a b) way ≡ pos 0 =
     along_third (direction c d) (direction a b) way (some_direction c d apart) (cross_product-turned (direction a b) (direction c d) parallel) (side-on c d p on_cd) in
     let moved = rw (side-on a b p on_ab, along) at (side-moved a.x a.y b.x b.y c.x c.y p.x p.y p.w) in
-    zero_factor p.w (side_of a b c) (λ e. omega (arith, ints, e, p.positive)) (omega (arith, ints, moved))
+    zero_factor p.w (orientation a b c) (λ e. omega (arith, ints, e, p.positive)) (omega (arith, ints, moved))
 
 -- c comes before b where a point doesn't come before c, and comes before b
 before_past : (c b : Point) (p : RationalPoint) → (IsBefore (numerators p) (scaled c p.w) → ⊥) → IsBefore (numerators p) (scaled b p.w) → IsBefore c b
@@ -87,7 +87,7 @@ one_part a b c d p clear order other inside on =
     )
 
 -- an end of a piece on the line of another doesn't come between the ends of that
-not_between : (segments : List Segment) (e : Edge) (s : Segment) → IsFrom segments e s → (q : Point) → IsCut segments q → side_of e.low e.high q ≡ pos 0 →
+not_between : (segments : List Segment) (e : Edge) (s : Segment) → IsFrom segments e s → (q : Point) → IsCut segments q → orientation e.low e.high q ≡ pos 0 →
     IsBefore e.low q → IsBefore q e.high → ⊥
 not_between segments e s h q cut line low high = not_inside_piece segments s e h.piece q cut (inside_in_line e.low q e.high line low high)
 
@@ -104,18 +104,18 @@ one_piece segments e f s t h k parallel p inside on =
     turned : cross_product (direction f.low f.high) (direction e.low e.high) ≡ pos 0
     turned = cross_product-turned (direction e.low e.high) (direction f.low f.high) straight
 
-    low_of_f : side_of e.low e.high f.low ≡ pos 0
+    low_of_f : orientation e.low e.high f.low ≡ pos 0
     low_of_f = on_one_line e.low e.high f.low f.high p (IsBefore-irrefl f.low f.high k.order) straight inside.0 on
 
-    low_of_e : side_of f.low f.high e.low ≡ pos 0
+    low_of_e : orientation f.low f.high e.low ≡ pos 0
     low_of_e = on_one_line f.low f.high e.low e.high p (IsBefore-irrefl e.low e.high h.order) turned on inside.0
 
     clear : AreClear e.low e.high f.low f.high
     clear = record {
       no_a = not_between segments f t k e.low h.piece.low_cut.1 low_of_e;
-      no_b = not_between segments f t k e.high h.piece.high_cut.1 (omega (arith, ints, low_of_e, turned, side-second f.low f.high e.low e.high));
+      no_b = not_between segments f t k e.high h.piece.high_cut.1 (omega (arith, ints, low_of_e, turned, orientation-second f.low f.high e.low e.high));
       no_c = not_between segments e s h f.low k.piece.low_cut.1 low_of_f;
-      no_d = not_between segments e s h f.high k.piece.high_cut.1 (omega (arith, ints, low_of_f, straight, side-second e.low e.high f.low f.high));
+      no_d = not_between segments e s h f.high k.piece.high_cut.1 (omega (arith, ints, low_of_f, straight, orientation-second e.low e.high f.low f.high));
     }
 
 -- pieces of segments that aren't parallel have no common point inside the one, unless the segments cross off the lattice

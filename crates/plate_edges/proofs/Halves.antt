@@ -5,7 +5,7 @@ use Rattle.nest_base.specs.Plane.{RationalPoint, rational, scaled, numerators, I
 use Rattle.nest_base.specs.Order.{IsBefore}
 use Rattle.nest_base.proofs.Orders.{IsBefore-irrefl}
 use Rattle.nest_base.proofs.Points.{on_first, on_last}
-use Rattle.segment_meeting.specs.Sides.{side_of}
+use Rattle.segment_meeting.specs.Orientation.{orientation}
 use Rattle.plate_edges.specs.Edges.{IsInside}
 use Rattle.plate_edges.proofs.Directions.{in_line, side-place}
 use Rattle.plate_edges.proofs.Insides.{inside_in_line, between_inside, not_below, not_above}
@@ -14,7 +14,7 @@ use Rattle.plate_edges.proofs.Scaled.{scaled_before, scaled_line, on_scaled, on_
 
 -- q comes between a and b on their line
 record IsWayPoint (a b q : Point) : Type 0 where
-  line : side_of a b q ≡ pos 0
+  line : orientation a b q ≡ pos 0
   low : IsBefore a q
   high : IsBefore q b
 

@@ -10,10 +10,10 @@ use Rattle.nest_base.proofs.Directions.{cross_product-turned}
 use Rattle.nest_base.proofs.Orders.{IsBefore-irrefl}
 use Rattle.nest_base.proofs.Points.{on_place, line_of_place, across_place, up_place}
 use Rattle.nest_base.proofs.Signs.{mul_pos}
-use Rattle.segment_meeting.specs.Sides.{side_of}
+use Rattle.segment_meeting.specs.Orientation.{orientation}
 use Rattle.segment_meeting.proofs.Between.{only_between}
 use Rattle.segment_meeting.proofs.Collinear.{level}
-use Rattle.segment_meeting.proofs.Lines.{side-seen, side-on, side_of_point, line_cross}
+use Rattle.segment_meeting.proofs.Lines.{orientation-seen, side-on, point_orientation, line_cross}
 use Rattle.plate_edges.specs.Edges.{IsInside}
 use Rattle.plate_edges.proofs.Directions.{in_line, side-place, only_place, along_third, some_direction, way_along, side-moved}
 use Rattle.plate_edges.proofs.Orders.{by_order}
@@ -27,16 +27,16 @@ across_between p q r (inl h) (inr k) = inl (omega (arith, ints), omega (arith, i
 across_between p q r (inr h) (inl k) = inl (omega (arith, ints, h.0), omega (arith, ints))
 across_between p q r (inr h) (inr k) = inl (omega (arith, ints, h.0), omega (arith, ints, k.0))
 
-up_between : (p q r : Point) → side_of p r q ≡ pos 0 → IsBefore p q → IsBefore q r → IsBetween p.y q.y r.y
+up_between : (p q r : Point) → orientation p r q ≡ pos 0 → IsBefore p q → IsBefore q r → IsBetween p.y q.y r.y
 up_between p q r line (inl h) (inl k) = level p r q (λ e. omega (arith, ints, e)) line (across_between p q r (inl h) (inl k))
 up_between p q r line (inl h) (inr k) = level p r q (λ e. omega (arith, ints, e, k.0)) line (across_between p q r (inl h) (inr k))
 up_between p q r line (inr h) (inl k) = level p r q (λ e. omega (arith, ints, e, h.0)) line (across_between p q r (inr h) (inl k))
 up_between p q r line (inr h) (inr k) = inl (omega (arith, ints, h.1), omega (arith, ints, k.1))
 
 -- a place of a line between two others, in the order of places, lies inside their part
-pub inside_in_line : (p q r : Point) → side_of p r q ≡ pos 0 → IsBefore p q → IsBefore q r → IsInside (rational q) p r
+pub inside_in_line : (p q r : Point) → orientation p r q ≡ pos 0 → IsBefore p q → IsBefore q r → IsInside (rational q) p r
 inside_in_line p q r line low high = (
-  on_place q p r (side-seen p r q ∙ line) (across_between p q r low high) (up_between p q r line low high),
+  on_place q p r (orientation-seen p r q ∙ line) (across_between p q r low high) (up_between p q r line low high),
   (λ at. IsBefore-irrefl p q low (sym (place_at q p at))),
   (λ at. IsBefore-irrefl q r high (place_at q r at)),
 )
@@ -132,5 +132,5 @@ on_part a b p r x on_p on_r on = record {
   along : cross_product (direction a b) way ≡ pos 0
   along = by_order p r (λ less. on_part_line (IsBefore-irrefl p r less)) at_part (λ more. on_part_line (λ same. IsBefore-irrefl r p more (sym same)))
 
-  off : side_of_point a b x ≡ pos 0
+  off : point_orientation a b x ≡ pos 0
   off = let moved = rw (along, side-place a b p on_p) at (side-moved a.x a.y b.x b.y p.x p.y x.x x.y x.w) in omega (arith, ints, moved)

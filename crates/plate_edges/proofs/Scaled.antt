@@ -7,9 +7,9 @@ use Rattle.nest_base.specs.Order.{IsBefore}
 use Rattle.nest_base.proofs.Differences.{diff_of, diff_same, diffs}
 use Rattle.nest_base.proofs.Points.{on_place, line_of_place, across_place, up_place}
 use Rattle.nest_base.proofs.Signs.{mul_pos, mul_nonneg}
-use Rattle.segment_meeting.specs.Sides.{side_of}
+use Rattle.segment_meeting.specs.Orientation.{orientation}
 use Rattle.segment_meeting.proofs.Factors.{sub-mul, zero_factor}
-use Rattle.segment_meeting.proofs.Lines.{side-seen}
+use Rattle.segment_meeting.proofs.Lines.{orientation-seen}
 use Rattle.segment_meeting.proofs.OnePoint.{times_zero}
 use Rattle.plate_edges.specs.Edges.{IsInside}
 use Rattle.plate_edges.proofs.Places.{place_at}
@@ -41,13 +41,13 @@ scaled_before a b w some (inr h) = inr (ap (λ v. v *ℤ w) h.0, scaled_lt a.y b
 scaled_cross : (ax ay bx by w : ℤ) → ((ax *ℤ w) *ℤ (by *ℤ w)) -ℤ ((ay *ℤ w) *ℤ (bx *ℤ w)) ≡ w *ℤ (w *ℤ ((ax *ℤ by) -ℤ (ay *ℤ bx)))
 scaled_cross ax ay bx by w = rw (diff_of ax, diff_of ay, diff_of bx, diff_of by, diff_of w) (simp diffs (diff_same _ _ _ _ (omega arith)))
 
-pub scaled_side : (a b q : Point) (w : ℤ) → side_of (scaled a w) (scaled b w) (scaled q w) ≡ w *ℤ (w *ℤ side_of a b q)
+pub scaled_side : (a b q : Point) (w : ℤ) → orientation (scaled a w) (scaled b w) (scaled q w) ≡ w *ℤ (w *ℤ orientation a b q)
 scaled_side a b q w =
     rw (sym (sub-mul b.x a.x w), sym (sub-mul b.y a.y w), sym (sub-mul q.x a.x w), sym (sub-mul q.y a.y w))
     (scaled_cross (b.x -ℤ a.x) (b.y -ℤ a.y) (q.x -ℤ a.x) (q.y -ℤ a.y) w)
 
-pub scaled_line : (a b q : Point) (w : ℤ) → side_of a b q ≡ pos 0 → side_of (scaled a w) (scaled b w) (scaled q w) ≡ pos 0
-scaled_line a b q w line = scaled_side a b q w ∙ times_zero w (w *ℤ side_of a b q) (times_zero w (side_of a b q) line)
+pub scaled_line : (a b q : Point) (w : ℤ) → orientation a b q ≡ pos 0 → orientation (scaled a w) (scaled b w) (scaled q w) ≡ pos 0
+scaled_line a b q w line = scaled_side a b q w ∙ times_zero w (w *ℤ orientation a b q) (times_zero w (orientation a b q) line)
 
 -- beside scaled places a point of the plane is the place of its numerators
 pub on_scaled : (p : RationalPoint) (a b : Point) → IsOn p a b → IsOn (rational (numerators p)) (scaled a p.w) (scaled b p.w)
@@ -70,16 +70,16 @@ inside_scaled p a b inside = (
 -- a place lies where its multiple does
 on_place_scaled : (q a b : Point) (w : ℤ) → pos 0 <ℤ w → IsOn (rational (scaled q w)) (scaled a w) (scaled b w) → IsOn (rational q) a b
 on_place_scaled q a b w some on =
-    on_place q a b (side-seen a b q ∙ line)
+    on_place q a b (orientation-seen a b q ∙ line)
     (unscaled_between a.x q.x b.x w some (across_place (scaled q w) (scaled a w) (scaled b w) on))
     (unscaled_between a.y q.y b.y w some (up_place (scaled q w) (scaled a w) (scaled b w) on))
   where
     not_none : w ≡ pos 0 → ⊥
     not_none e = omega (arith, ints, e)
 
-    line : side_of a b q ≡ pos 0
-    line = zero_factor w (side_of a b q) not_none (zero_factor w (w *ℤ side_of a b q) not_none
-        (sym (scaled_side a b q w) ∙ sym (side-seen (scaled a w) (scaled b w) (scaled q w)) ∙ line_of_place (scaled q w) (scaled a w) (scaled b w) on))
+    line : orientation a b q ≡ pos 0
+    line = zero_factor w (orientation a b q) not_none (zero_factor w (w *ℤ orientation a b q) not_none
+        (sym (scaled_side a b q w) ∙ sym (orientation-seen (scaled a w) (scaled b w) (scaled q w)) ∙ line_of_place (scaled q w) (scaled a w) (scaled b w) on))
 
 -- where a point is a place, this lies where the point does
 pub place_on : (p : RationalPoint) (q a b : Point) → IsAt p q → IsOn p a b → IsOn (rational q) a b

@@ -10,7 +10,7 @@ use Rattle.nest_base.specs.Order.{IsBefore}
 use Rattle.nest_base.proofs.Directions.{IsSameDirection-sym}
 use Rattle.nest_base.proofs.InsideAngles.{inside_turned}
 use Rattle.plate_edges.specs.Points.{EdgesMeetAtEndsOnly}
-use Rattle.plate_sides.specs.Sides.{IsHalfEdge, IsNextCcw}
+use Rattle.plate_sides.specs.HalfEdges.{IsHalfEdge, IsNextCcw}
 use Rattle.plate_sides.specs.Links.{IsAlong, IsMarkSide}
 use Rattle.plate_nesting.proofs.Corners.{heading_is_direction, one_way_is_one}
 use Rattle.plate_nesting.proofs.ThreeWays.{same_or_apart, three_ways}

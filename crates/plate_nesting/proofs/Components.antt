@@ -5,7 +5,7 @@ use Rattle.nest_base.specs.declared.places.Edge.{Edge}
 use Rattle.nest_base.specs.Plane.{HalfEdge, twin}
 use Rattle.nest_base.specs.Walks.{Walk, here, on, against}
 use Rattle.nest_base.proofs.Walks.{Walk-then, Walk-back, Walk-keeps}
-use Rattle.plate_sides.specs.Sides.{IsHalfEdge, IsNextCcw}
+use Rattle.plate_sides.specs.HalfEdges.{IsHalfEdge, IsNextCcw}
 use Rattle.plate_sides.specs.Components.{IsIn, SameComponent}
 use Rattle.plate_sides.specs.Links.{At, along, IsAlong, IsOuterSide}
 use Rattle.plate_sides.specs.Nesting.{IsRound, IsWhole}

@@ -12,7 +12,7 @@ use Rattle.plate_sides.specs.Links.{At, along}
 use Rattle.plate_sides.specs.Nesting.{IsRound, HasMarkSides, IsWhole}
 use Rattle.plate_sides.specs.Reach.{Reaches, HasEdge, IsLinkedOver, within, across}
 use Rattle.plate_sides.specs.Enclosing.{IsOrderEnclosing, ReachesEdgeOf, IsLinkedThrough, along as along_through, across as across_through}
-use Rattle.plate_covers.specs.Plans.{IsOrderWithin, AreFinished, IsReady}
+use Rattle.plate_sides.specs.Plans.{IsOrderWithin, AreFinished, IsReady}
 use Rattle.plate_sides.proofs.Components.{twin_is_in}
 use Rattle.plate_nesting.proofs.Cuts.{cut_of_append}
 use Rattle.plate_nesting.proofs.Finished.{stands_in, HasEdge-append_cases, open_is_whole}

@@ -9,7 +9,7 @@ use Rattle.nest_base.proofs.Lists.{Contains-head, Contains-later, Contains-cases
 use Rattle.plate_sides.specs.Components.{IsMark, IsIn}
 use Rattle.plate_sides.specs.Nesting.{IsParent, IsWhole}
 use Rattle.plate_sides.specs.Reach.{HasEdge}
-use Rattle.plate_covers.specs.Plans.{IsOrderWithin, AreFinished, IsReady}
+use Rattle.plate_sides.specs.Plans.{IsOrderWithin, AreFinished, IsReady}
 use Rattle.plate_sides.proofs.Components.{twin_is_in}
 use Rattle.plate_nesting.proofs.Marks.{one_mark}
 

@@ -15,4 +15,6 @@ pub mod Finished
 pub mod Enclosing
 pub mod Counts
 pub mod Plans
-pub mod OuterRings
+pub mod OuterCycles
+pub mod Fronts
+pub mod OneOrder

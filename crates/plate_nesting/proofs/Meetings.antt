@@ -1,4 +1,4 @@
--- Half-edges of edges that meet at ends only: the places that two of them share.
+-- Half-edges of edges that meet at ends only: the places that two of them cover.
 use Rattle.std.proofs.Common.{◌≡◌, ◌⊎◌, inl, inr, List, sym, ap, ◌∙◌, subst}
 use Rattle.std.specs.Prelude.{AllPairs}
 use Rattle.nest_base.specs.declared.places.Point.{Point}
@@ -8,7 +8,7 @@ use Rattle.nest_base.proofs.Points.{turned_on}
 use Rattle.plate_edges.specs.Points.{EdgesMeetAtEndsOnly, IsEndOfEdge}
 use Rattle.plate_edges.proofs.Lists.{pair_of}
 use Rattle.plate_edges.proofs.Places.{place_at}
-use Rattle.plate_sides.specs.Sides.{IsHalfEdgeOf, IsHalfEdge}
+use Rattle.plate_sides.specs.HalfEdges.{IsHalfEdgeOf, IsHalfEdge}
 use Rattle.plate_sides.proofs.HalfEdges.{same_or_twin}
 
 -- what lies on a half-edge lies on its edge

@@ -10,7 +10,7 @@ use Rattle.nest_base.proofs.Differences.{diff_of, diffs, diff_same}
 use Rattle.nest_base.proofs.Points.{mul-one, on_first, on_last}
 use Rattle.nest_base.proofs.Signs.{mul_nonneg}
 use Rattle.plate_edges.specs.Points.{EdgesMeetAtEndsOnly}
-use Rattle.plate_sides.specs.Sides.{IsHalfEdge}
+use Rattle.plate_sides.specs.HalfEdges.{IsHalfEdge}
 use Rattle.plate_sides.specs.Links.{Outer, At, IsSeen}
 use Rattle.plate_sides.specs.Nesting.{SeesOne}
 use Rattle.plate_nesting.proofs.Factors.{less_or_not, le_of_mul, eq_of_mul}

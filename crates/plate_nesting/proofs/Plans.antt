@@ -8,12 +8,12 @@ use Rattle.nest_base.specs.declared.places.Edge.{Edge}
 use Rattle.nest_base.specs.Plane.{HalfEdge}
 use Rattle.nest_base.specs.Selection.{HasCount}
 use Rattle.nest_base.proofs.Lists.{Contains-head, Contains-cases, Contains-none}
-use Rattle.plate_sides.specs.Sides.{forth, IsHalfEdgeOf}
+use Rattle.plate_sides.specs.HalfEdges.{forth, IsHalfEdgeOf}
 use Rattle.plate_sides.specs.Components.{IsMark, IsIn, AreMarks}
 use Rattle.plate_sides.specs.Enclosing.{IsOrderEnclosing}
 use Rattle.plate_sides.specs.Nesting.{IsRound, HasMarkSides}
-use Rattle.plate_covers.specs.Cover.{IsTrail, joined, HasTrailsIn}
-use Rattle.plate_covers.specs.Plans.{IsReady, AreFinished, CoversWithin, IsPlanFor, IsEnclosingCover}
+use Rattle.plate_sides.specs.Cover.{IsTrail, joined, HasTrailsIn}
+use Rattle.plate_sides.specs.Plans.{IsReady, AreFinished, CoversWithin, IsPlanFor, IsEnclosingCover}
 use Rattle.plate_nesting.proofs.Counts.{HasCount-append, HasCount-none, HasCount-all}
 use Rattle.plate_nesting.proofs.Cuts.{no_cut}
 use Rattle.plate_nesting.proofs.Enclosing.{ready_orders_enclose}

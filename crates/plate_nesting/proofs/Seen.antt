@@ -7,7 +7,7 @@ use Rattle.nest_base.specs.declared.places.Edge.{Edge}
 use Rattle.nest_base.specs.Plane.{HalfEdge, twin, cross_product, direction, heading}
 use Rattle.nest_base.specs.Sight.{IsMet, IsNearer, fall, drift, x_at}
 use Rattle.nest_base.proofs.Lists.{Contains-head, Contains-later, Contains-cases, Contains-none}
-use Rattle.plate_sides.specs.Sides.{forth, IsHalfEdge}
+use Rattle.plate_sides.specs.HalfEdges.{forth, IsHalfEdge}
 use Rattle.plate_sides.specs.Links.{Node, Outer, At, Sees}
 use Rattle.segment_meeting.proofs.Factors.{same_or_not}
 use Rattle.plate_nesting.proofs.Factors.{less_or_not}
@@ -40,7 +40,7 @@ nearer_or_not p d e = elim (less_or_not (x_at p.y e *ℤ fall d) (x_at p.y d *�
   ]
 ]
 
-not_nearer_itself : (p : Point) (d : HalfEdge) → IsNearer p d d → ⊥
+pub not_nearer_itself : (p : Point) (d : HalfEdge) → IsNearer p d d → ⊥
 not_nearer_itself p d (inl h) = omega (arith, ints, h)
 not_nearer_itself p d (inr h) = omega (arith, ints, h.1)
 

@@ -11,8 +11,8 @@ use Rattle.plate_sides.specs.Links.{Node, Sees, IsAlong, IsMarkSide, IsOuterSide
 use Rattle.plate_sides.specs.Enclosing.{IsOrderEnclosing}
 use Rattle.plate_sides.specs.Nesting.{IsRound, HasMarkSides, SeesOne, IsParent, IsAround, IsWhole}
 use Rattle.plate_sides.specs.Reach.{Reaches}
-use Rattle.plate_covers.specs.Cover.{HasTrailsIn}
-use Rattle.plate_covers.specs.Plans.{IsOrderWithin, AreFinished, IsReady, CoversWithin, IsPlanFor, IsEnclosingCover}
+use Rattle.plate_sides.specs.Cover.{HasTrailsIn}
+use Rattle.plate_sides.specs.Plans.{IsOrderWithin, AreFinished, IsReady, CoversWithin, IsPlanFor, IsEnclosingCover}
 
 -- from each place something is seen
 abbrev pub SomethingIsSeen : Type 0

@@ -21,3 +21,9 @@ pub record IsBurningOrder (parents : List (Option ℕ)) (order : List ℕ) : Typ
   pub least : (finished : List ℕ) (c : ℕ) (later : List ℕ) → order ≡ finished ++ c ∷ later →
       (d : ℕ) → IsReadyAfter parents finished d → c ≤ d
   pub all : (c : ℕ) → c < length parents → Contains order c
+
+-- so far at each turn the least of those that are ready
+pub record IsFront (parents : List (Option ℕ)) (order : List ℕ) : Type 0 where
+  pub ready : (finished : List ℕ) (c : ℕ) (later : List ℕ) → order ≡ finished ++ c ∷ later → IsReadyAfter parents finished c
+  pub least : (finished : List ℕ) (c : ℕ) (later : List ℕ) → order ≡ finished ++ c ∷ later →
+      (d : ℕ) → IsReadyAfter parents finished d → c ≤ d

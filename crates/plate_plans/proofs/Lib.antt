@@ -3,3 +3,8 @@ pub mod Once
 pub mod Places
 pub mod Readiness
 pub mod Turns
+pub mod OneBound
+pub mod Ends
+pub mod Tips
+pub mod TrailCounts
+pub mod Undercut

@@ -7,17 +7,9 @@ use Rattle.nest_base.specs.declared.places.Point.{Point}
 use Rattle.nest_base.specs.declared.places.Edge.{Edge}
 use Rattle.nest_base.specs.Order.{IsMarkedBefore}
 use Rattle.nest_base.proofs.Orders.{IsMarkedBefore-irrefl}
+use Rattle.nest_base.proofs.ListReads.{read_below, Contains-from_read}
 use Rattle.plate_sides.specs.Components.{IsMark, AreMarks}
 use Rattle.plate_plans.specs.Laws.{ParentsHaveLesserNumbers}
-
--- each place below the length has an element
-pub read_below : {X : Type 0} (xs : List X) (k : ℕ) → k < length xs → (x : X) × (slice_get xs k ≡ Some x)
-read_below [] k h = absurd (omega arith)
-read_below (x ∷ xs) zero h = (x, refl)
-read_below (x ∷ xs) (suc k) h = read_below xs k (omega arith)
-
-Contains-from_read : {X : Type 0} (xs : List X) (k : ℕ) (x : X) → slice_get xs k ≡ Some x → Contains xs x
-Contains-from_read xs k x at = (k, slice_get_within xs k x at, get_or_from_slice_get xs k x x at)
 
 -- of two places of one element neither is the lesser, in a list in an order that nothing has with itself
 not_later : {X : Type 0} (R : X → X → Type 0) (xs : List X) (i j : ℕ) (x : X) → AllPairs R xs → (R x x → ⊥) →

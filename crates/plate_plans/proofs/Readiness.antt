@@ -5,12 +5,13 @@ use Rattle.nest_base.specs.declared.places.Point.{Point}
 use Rattle.nest_base.specs.declared.places.Edge.{Edge}
 use Rattle.plate_sides.specs.Components.{IsMark, IsIn}
 use Rattle.plate_sides.specs.Nesting.{IsParent, IsParentOf, AreParents}
-use Rattle.plate_covers.specs.Plans.{IsReady}
+use Rattle.plate_sides.specs.Plans.{IsReady}
 use Rattle.plate_nesting.specs.Order.{LiesIn, IsReadyAfter}
 use Rattle.plate_nesting.proofs.Marks.{one_mark}
 use Rattle.plate_nesting.proofs.Nearest.{seen_is_one}
 use Rattle.plate_plans.specs.Plates.{IsPlate}
-use Rattle.plate_plans.proofs.Places.{read_below, number_of, one_number}
+use Rattle.nest_base.proofs.ListReads.{read_below}
+use Rattle.plate_plans.proofs.Places.{number_of, one_number}
 
 -- the mark vertices of the components with these numbers are these
 pub record AreNamed (marks : List Point) (numbers : List ℕ) (finished : List Point) : Type 0 where

@@ -1,3 +1,4 @@
 pub mod Plates
 pub mod Plans
 pub mod Laws
+pub mod Undercutting

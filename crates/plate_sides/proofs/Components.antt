@@ -4,7 +4,7 @@ use Rattle.nest_base.specs.declared.places.Point.{Point}
 use Rattle.nest_base.specs.declared.places.Edge.{Edge}
 use Rattle.nest_base.specs.Plane.{HalfEdge, twin}
 use Rattle.nest_base.specs.Walks.{on}
-use Rattle.plate_sides.specs.Sides.{IsHalfEdgeOf}
+use Rattle.plate_sides.specs.HalfEdges.{IsHalfEdgeOf}
 use Rattle.plate_sides.specs.Components.{IsIn}
 use Rattle.plate_sides.proofs.HalfEdges.{same_or_twin, twin_is_half_edge}
 

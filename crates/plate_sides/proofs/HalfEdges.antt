@@ -4,7 +4,7 @@ use Rattle.nest_base.specs.declared.places.Edge.{Edge}
 use Rattle.nest_base.specs.Plane.{HalfEdge, twin}
 use Rattle.nest_base.specs.Order.{IsBefore}
 use Rattle.nest_base.proofs.Orders.{IsBefore-asym, IsBefore-irrefl}
-use Rattle.plate_sides.specs.Sides.{forth, IsHalfEdgeOf, IsHalfEdge}
+use Rattle.plate_sides.specs.HalfEdges.{forth, IsHalfEdgeOf, IsHalfEdge}
 
 same_ends : (e f : Edge) → forth e ≡ forth f → e ≡ f
 same_ends e f same = ap (λ (h : HalfEdge). record { low = h.from; high = h.to }) same
@@ -28,11 +28,6 @@ one_edge e f h ahead behind (inr p) (inr q) = same_ends e f (ap twin (sym p ∙ 
 pub from_is_end : (e : Edge) (h : HalfEdge) → IsHalfEdgeOf e h → (h.from ≡ e.low) ⊎ (h.from ≡ e.high)
 from_is_end e h (inl p) = inl (ap (λ (g : HalfEdge). g.from) p)
 from_is_end e h (inr p) = inr (ap (λ (g : HalfEdge). g.from) p)
-
--- and leads to one
-pub to_is_end : (e : Edge) (h : HalfEdge) → IsHalfEdgeOf e h → (h.to ≡ e.low) ⊎ (h.to ≡ e.high)
-to_is_end e h (inl p) = inr (ap (λ (g : HalfEdge). g.to) p)
-to_is_end e h (inr p) = inl (ap (λ (g : HalfEdge). g.to) p)
 
 -- the other half-edge of an edge belongs to it too
 pub twin_is_half_edge_of : (e : Edge) (h : HalfEdge) → IsHalfEdgeOf e h → IsHalfEdgeOf e (twin h)

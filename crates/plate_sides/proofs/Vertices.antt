@@ -4,14 +4,9 @@ use Rattle.std.specs.Prelude.{Contains}
 use Rattle.nest_base.specs.declared.places.Point.{Point}
 use Rattle.nest_base.specs.declared.places.Edge.{Edge}
 use Rattle.nest_base.specs.Walks.{here, on, against}
-use Rattle.plate_sides.specs.Sides.{IsVertex}
+use Rattle.plate_sides.specs.HalfEdges.{IsVertex}
 use Rattle.plate_sides.specs.Components.{SameComponent}
 use Rattle.plate_sides.proofs.HalfEdges.{twin_is_half_edge}
-
--- an end of an edge is a vertex
-pub end_is_vertex : (edges : List Edge) (e : Edge) (v : Point) → Contains edges e → (v ≡ e.low) ⊎ (v ≡ e.high) → IsVertex edges v
-end_is_vertex edges e v stands (inl at) = (record { from = e.low; to = e.high }, ((e, stands, inl refl), sym at))
-end_is_vertex edges e v stands (inr at) = (record { from = e.high; to = e.low }, ((e, stands, inr refl), sym at))
 
 -- what edges join to a vertex is a vertex
 pub joined_is_vertex : (edges : List Edge) {mark v : Point} → IsVertex edges mark → SameComponent edges v mark → IsVertex edges v

@@ -6,7 +6,7 @@ use Rattle.nest_base.specs.Plane.{HalfEdge}
 use Rattle.nest_base.specs.Order.{IsMarkedBefore}
 use Rattle.nest_base.specs.Walks.{Walk}
 use Rattle.nest_base.specs.Selection.{EnumeratesBy}
-use Rattle.plate_sides.specs.Sides.{IsHalfEdge, IsVertex}
+use Rattle.plate_sides.specs.HalfEdges.{IsHalfEdge, IsVertex}
 
 -- an edge has the ends u and v
 abbrev pub IsJoinedTo : List Edge → Point → Point → Type 0

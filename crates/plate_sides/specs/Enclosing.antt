@@ -4,7 +4,7 @@ use Rattle.nest_base.specs.declared.places.Point.{Point}
 use Rattle.nest_base.specs.declared.places.Edge.{Edge}
 use Rattle.nest_base.specs.Plane.{HalfEdge, twin}
 use Rattle.nest_base.specs.Walks.{Walk}
-use Rattle.plate_sides.specs.Sides.{IsHalfEdge}
+use Rattle.plate_sides.specs.HalfEdges.{IsHalfEdge}
 use Rattle.plate_sides.specs.Links.{IsAlong, IsOuterSide}
 use Rattle.plate_sides.specs.Reach.{Reaches, HasEdge}
 

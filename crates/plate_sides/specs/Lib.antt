@@ -1,7 +1,16 @@
-pub mod Sides
+pub mod HalfEdges
 pub mod Components
 pub mod Links
 pub mod Reach
 pub mod Enclosing
 pub mod Sixteen
 pub mod Nesting
+pub mod Odd
+pub mod OddCounts
+pub mod Cover
+pub mod Limit
+pub mod Bound
+pub mod Starts
+pub mod Plans
+pub mod ComponentCovers
+pub mod Paths

@@ -6,7 +6,7 @@ use Rattle.nest_base.specs.Plane.{HalfEdge, twin, heading}
 use Rattle.nest_base.specs.Turn.{IsInsideAngle, west}
 use Rattle.nest_base.specs.Sight.{IsMet, IsNearer}
 use Rattle.nest_base.specs.Walks.{Walk}
-use Rattle.plate_sides.specs.Sides.{IsHalfEdge, Leaves, IsNextCw}
+use Rattle.plate_sides.specs.HalfEdges.{IsHalfEdge, Leaves, IsNextCw}
 use Rattle.plate_sides.specs.Components.{IsMark}
 
 -- what links join: the half-edges, and one object `Outer` beside them

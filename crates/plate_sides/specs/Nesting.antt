@@ -5,7 +5,7 @@ use Rattle.nest_base.specs.declared.places.Point.{Point}
 use Rattle.nest_base.specs.declared.places.Edge.{Edge}
 use Rattle.nest_base.specs.Plane.{HalfEdge}
 use Rattle.nest_base.specs.Walks.{Walk}
-use Rattle.plate_sides.specs.Sides.{IsHalfEdge, IsNextCcw}
+use Rattle.plate_sides.specs.HalfEdges.{IsHalfEdge, IsNextCcw}
 use Rattle.plate_sides.specs.Components.{IsMark, IsIn}
 use Rattle.plate_sides.specs.Links.{Node, IsSeen, Sees, SeesNone, IsAlong, IsMarkSide, IsOuterSide}
 use Rattle.plate_sides.specs.Reach.{HasEdge}
@@ -50,11 +50,11 @@ pub record AreParents (edges : List Edge) (marks : List Point) (parents : List (
 
 -- the outer sides of the component with this mark vertex, each once: from the mark side on each goes along to the next, and the last one
 -- to the mark side
-pub record IsOuterRing (edges : List Edge) (mark : Point) (ring : List HalfEdge) : Type 0 where
+pub record IsOuterCycle (edges : List Edge) (mark : Point) (cycle : List HalfEdge) : Type 0 where
   pub mark_side : HalfEdge
-  pub begins : slice_get ring 0 ≡ Some mark_side
+  pub begins : slice_get cycle 0 ≡ Some mark_side
   pub is_mark_side : IsMarkSide edges mark_side
   pub leaves : mark_side.from ≡ mark
-  pub goes_round : AllAdjacentBelow (IsAlong edges) (ring ++ mark_side ∷ []) (length ring + 1)
-  pub once : AllPairs (λ g h. g ≢ h) ring
-  pub whole : (h : HalfEdge) → IsOuterSide edges mark h → Contains ring h
+  pub goes_round : AllAdjacentBelow (IsAlong edges) (cycle ++ mark_side ∷ []) (length cycle + 1)
+  pub once : AllPairs (λ g h. g ≢ h) cycle
+  pub whole : (h : HalfEdge) → IsOuterSide edges mark h → Contains cycle h

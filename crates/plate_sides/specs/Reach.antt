@@ -3,7 +3,7 @@ use Rattle.std.specs.Prelude.{◌≡◌, ◌⊎◌, ℕ, ◌+◌, ◌≤◌, Lis
 use Rattle.nest_base.specs.declared.places.Edge.{Edge}
 use Rattle.nest_base.specs.Plane.{HalfEdge, twin}
 use Rattle.nest_base.specs.Walks.{Walk, here, on, against}
-use Rattle.plate_sides.specs.Sides.{IsHalfEdge}
+use Rattle.plate_sides.specs.HalfEdges.{IsHalfEdge}
 use Rattle.plate_sides.specs.Links.{Node, Outer, At, IsLinked}
 
 -- walks within a face join a and b

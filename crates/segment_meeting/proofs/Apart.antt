@@ -7,16 +7,16 @@ use Rattle.nest_base.specs.Plane.{RationalPoint, IsOn, MeetIn, cross_product, di
 use Rattle.nest_base.proofs.Differences.{diff_of, diffs, diff_same}
 use Rattle.nest_base.proofs.Points.{turned_on}
 use Rattle.nest_base.proofs.Signs.{mul_pos}
-use Rattle.segment_meeting.specs.Sides.{side_of, LieAside, AreBoxesApart}
+use Rattle.segment_meeting.specs.Orientation.{orientation, LieAside, AreBoxesApart}
 use Rattle.segment_meeting.proofs.Between.{zero_mean, not_before}
-use Rattle.segment_meeting.proofs.Lines.{side_of_point, side-on, side-turned, seen_from, seen_on}
+use Rattle.segment_meeting.proofs.Lines.{point_orientation, side-on, orientation-turned, seen_from, seen_on}
 
 -- the side of a point of a segment is a mean of the sides of its ends, by how far it lies along in x
-mean_x : (e c d : Point) (p : RationalPoint) → (d.x -ℤ c.x) *ℤ cross_product e (numerators p) ≡ (d.x *ℤ p.w -ℤ p.x) *ℤ cross_product e c +ℤ (p.x -ℤ c.x *ℤ p.w) *ℤ cross_product e d +ℤ e.x *ℤ side_of_point c d p
+mean_x : (e c d : Point) (p : RationalPoint) → (d.x -ℤ c.x) *ℤ cross_product e (numerators p) ≡ (d.x *ℤ p.w -ℤ p.x) *ℤ cross_product e c +ℤ (p.x -ℤ c.x *ℤ p.w) *ℤ cross_product e d +ℤ e.x *ℤ point_orientation c d p
 mean_x e c d p = rw (diff_of e.x, diff_of e.y, diff_of c.x, diff_of c.y, diff_of d.x, diff_of d.y, diff_of p.x, diff_of p.y, diff_of p.w) (simp diffs (diff_same _ _ _ _ (omega arith)))
 
 -- and by how far it lies along in y
-mean_y : (e c d : Point) (p : RationalPoint) → (d.y -ℤ c.y) *ℤ cross_product e (numerators p) ≡ (d.y *ℤ p.w -ℤ p.y) *ℤ cross_product e c +ℤ (p.y -ℤ c.y *ℤ p.w) *ℤ cross_product e d +ℤ e.y *ℤ side_of_point c d p
+mean_y : (e c d : Point) (p : RationalPoint) → (d.y -ℤ c.y) *ℤ cross_product e (numerators p) ≡ (d.y *ℤ p.w -ℤ p.y) *ℤ cross_product e c +ℤ (p.y -ℤ c.y *ℤ p.w) *ℤ cross_product e d +ℤ e.y *ℤ point_orientation c d p
 mean_y e c d p = rw (diff_of e.x, diff_of e.y, diff_of c.x, diff_of c.y, diff_of d.x, diff_of d.y, diff_of p.x, diff_of p.y, diff_of p.w) (simp diffs (diff_same _ _ _ _ (omega arith)))
 
 -- the side of a point beside a place
@@ -39,13 +39,13 @@ not_in_line e c d p in_line on left_c left_d =
     omega (arith, ints, at_c, mul_pos f p.w left_c p.positive)
 
 -- so it has none on a segment to whose left both ends lie
-not_left : (a b c d : Point) (p : RationalPoint) → IsOn p a b → IsOn p c d → pos 0 <ℤ side_of a b c → pos 0 <ℤ side_of a b d → ⊥
+not_left : (a b c d : Point) (p : RationalPoint) → IsOn p a b → IsOn p c d → pos 0 <ℤ orientation a b c → pos 0 <ℤ orientation a b d → ⊥
 not_left a b c d p ab cd left_c left_d = not_in_line (direction a b) (direction a c) (direction a d) (seen_from a p) (side-on a b p ab) (seen_on a c d p cd) left_c left_d
 
 -- nor on one to either side of which both lie
 pub not_aside : (a b c d : Point) (p : RationalPoint) → IsOn p a b → IsOn p c d → LieAside a b c d → ⊥
 not_aside a b c d p ab cd (inl h) = not_left a b c d p ab cd h.0 h.1
-not_aside a b c d p ab cd (inr h) = not_left b a c d p (turned_on a b p ab) cd (omega (arith, ints, h, side-turned a b c)) (omega (arith, ints, h, side-turned a b d))
+not_aside a b c d p ab cd (inr h) = not_left b a c d p (turned_on a b p ab) cd (omega (arith, ints, h, orientation-turned a b c)) (omega (arith, ints, h, orientation-turned a b d))
 
 -- segments whose boxes lie apart have none
 pub boxes_touch : (s t : Segment) (p : RationalPoint) → MeetIn s t p → AreBoxesApart s t → ⊥

@@ -5,7 +5,7 @@ use Rattle.std.proofs.lemmas.Int.{ints, by_lt_z}
 use Rattle.nest_base.specs.Plane.{IsBetween}
 use Rattle.nest_base.proofs.Differences.{neg-mul}
 use Rattle.nest_base.proofs.Signs.{mul_pos, mean_pos}
-use Rattle.segment_meeting.specs.Sides.{LieBeyond, AreBefore}
+use Rattle.segment_meeting.specs.Orientation.{LieBeyond, AreBefore}
 use Rattle.segment_meeting.proofs.Factors.{sub-mul, positive_factor, negative_factor}
 
 -- between a number and itself lies no other

@@ -7,22 +7,22 @@ use Rattle.nest_base.specs.Plane.{IsBetween, rational}
 use Rattle.nest_base.proofs.Differences.{diff_of, diffs, diff_same}
 use Rattle.nest_base.proofs.Intervals.{first_between}
 use Rattle.nest_base.proofs.Points.{on_place, on_first}
-use Rattle.segment_meeting.specs.Sides.{side_of, LieBeyond}
+use Rattle.segment_meeting.specs.Orientation.{orientation, LieBeyond}
 use Rattle.segment_meeting.proofs.Between.{only_between, between_or_beyond, zero_mean, Overlap, held_end, one_number}
 use Rattle.segment_meeting.proofs.Factors.{same_or_not}
-use Rattle.segment_meeting.proofs.Lines.{side-seen}
+use Rattle.segment_meeting.proofs.Lines.{orientation-seen}
 use Rattle.segment_meeting.proofs.Sharing.{Share, exchanged, first_turned}
 
 -- a place q of the line from a to b is a mean of a and b, by how far it lies along in x
-mean_height : (a b q : Point) → (b.x -ℤ q.x) *ℤ (a.y -ℤ q.y) +ℤ (q.x -ℤ a.x) *ℤ (b.y -ℤ q.y) ≡ neg_ℤ (side_of a b q)
+mean_height : (a b q : Point) → (b.x -ℤ q.x) *ℤ (a.y -ℤ q.y) +ℤ (q.x -ℤ a.x) *ℤ (b.y -ℤ q.y) ≡ neg_ℤ (orientation a b q)
 mean_height a b q = rw (diff_of a.x, diff_of a.y, diff_of b.x, diff_of b.y, diff_of q.x, diff_of q.y) (simp diffs (diff_same _ _ _ _ (omega arith)))
 
 -- and the other way up
-mean_depth : (a b q : Point) → (b.x -ℤ q.x) *ℤ (q.y -ℤ a.y) +ℤ (q.x -ℤ a.x) *ℤ (q.y -ℤ b.y) ≡ side_of a b q
+mean_depth : (a b q : Point) → (b.x -ℤ q.x) *ℤ (q.y -ℤ a.y) +ℤ (q.x -ℤ a.x) *ℤ (q.y -ℤ b.y) ≡ orientation a b q
 mean_depth a b q = rw (diff_of a.x, diff_of a.y, diff_of b.x, diff_of b.y, diff_of q.x, diff_of q.y) (simp diffs (diff_same _ _ _ _ (omega arith)))
 
 -- on a line that isn't upright, what lies between two places in x does so in y
-pub level : (a b q : Point) → (a.x ≡ b.x → ⊥) → side_of a b q ≡ pos 0 → IsBetween a.x q.x b.x → IsBetween a.y q.y b.y
+pub level : (a b q : Point) → (a.x ≡ b.x → ⊥) → orientation a b q ≡ pos 0 → IsBetween a.x q.x b.x → IsBetween a.y q.y b.y
 level a b q aslant on across = cases (between_or_beyond a.y q.y b.y)
   where
     both : (q.x ≡ a.x) × (q.x ≡ b.x) → ⊥
@@ -35,14 +35,14 @@ level a b q aslant on across = cases (between_or_beyond a.y q.y b.y)
 
 -- each end of either segment lies on the line of the other
 pub record AreCollinear (a b c d : Point) : Type 0 where
-  pub a_on : side_of c d a ≡ pos 0
-  pub b_on : side_of c d b ≡ pos 0
-  pub c_on : side_of a b c ≡ pos 0
-  pub d_on : side_of a b d ≡ pos 0
+  pub a_on : orientation c d a ≡ pos 0
+  pub b_on : orientation c d b ≡ pos 0
+  pub c_on : orientation a b c ≡ pos 0
+  pub d_on : orientation a b d ≡ pos 0
 
 -- an end of the first segment that lies on the second is shared
-at_end : (a b c d : Point) → side_of c d a ≡ pos 0 → IsBetween c.x a.x d.x → IsBetween c.y a.y d.y → Share a b c d
-at_end a b c d on across up = (rational a, (on_first a b, on_place a c d (side-seen c d a ∙ on) across up))
+at_end : (a b c d : Point) → orientation c d a ≡ pos 0 → IsBetween c.x a.x d.x → IsBetween c.y a.y d.y → Share a b c d
+at_end a b c d on across up = (rational a, (on_first a b, on_place a c d (orientation-seen c d a ∙ on) across up))
 
 -- the second segment isn't upright
 aslant_meet : (a b c d : Point) → (c.x ≡ d.x → ⊥) → AreCollinear a b c d → Overlap a.x b.x c.x d.x → Share a b c d

@@ -3,19 +3,12 @@ use Rattle.std.proofs.Common.{arith, ◌≡◌, ℤ, pos, ◌+ℤ◌, ◌-ℤ◌
 use Rattle.std.specs.Prelude.{neg_ℤ}
 use Rattle.std.proofs.lemmas.Int.{ints}
 use Rattle.nest_base.specs.declared.places.Point.{Point}
-use Rattle.nest_base.specs.Plane.{RationalPoint, IsOn, IsAt, cross_product}
+use Rattle.nest_base.specs.Plane.{RationalPoint, IsOn, IsAt}
 use Rattle.nest_base.proofs.Differences.{diff_of, diffs, diff_same, mul-neg}
-use Rattle.segment_meeting.specs.Sides.{LieBeyond}
+use Rattle.segment_meeting.specs.Orientation.{LieBeyond}
 use Rattle.segment_meeting.specs.Folds.{Folds}
 use Rattle.segment_meeting.proofs.Factors.{zero_factor}
 use Rattle.segment_meeting.proofs.Along.{point_along, point_along-on}
-
--- the way q, made up of the ways e and f
-parts_x : (e f q : Point) → q.x *ℤ cross_product e f ≡ f.x *ℤ cross_product e q -ℤ e.x *ℤ cross_product f q
-parts_x e f q = rw (diff_of e.x, diff_of e.y, diff_of f.x, diff_of f.y, diff_of q.x, diff_of q.y) (simp diffs (diff_same _ _ _ _ (omega arith)))
-
-parts_y : (e f q : Point) → q.y *ℤ cross_product e f ≡ f.y *ℤ cross_product e q -ℤ e.y *ℤ cross_product f q
-parts_y e f q = rw (diff_of e.x, diff_of e.y, diff_of f.x, diff_of f.y, diff_of q.x, diff_of q.y) (simp diffs (diff_same _ _ _ _ (omega arith)))
 
 -- a point strictly inside both segments from o
 pub record IsInsideBoth (o u v : Point) (p : RationalPoint) : Type 0 where

@@ -8,4 +8,5 @@ pub mod Crossing
 pub mod Collinear
 pub mod Meeting
 pub mod Folding
+pub mod OneDirection
 pub mod OnePoint

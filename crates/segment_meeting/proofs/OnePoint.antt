@@ -7,7 +7,7 @@ use Rattle.nest_base.specs.Plane.{RationalPoint, rational, IsAt, MeetIn, cross_p
 use Rattle.nest_base.proofs.Differences.{diff_of, diffs, diff_same}
 use Rattle.segment_meeting.specs.OnePoint.{IsOnePoint}
 use Rattle.segment_meeting.proofs.Factors.{zero_factor}
-use Rattle.segment_meeting.proofs.Lines.{side-on, side_of_point}
+use Rattle.segment_meeting.proofs.Lines.{side-on, point_orientation}
 
 -- the way from one point to another, times both w
 abbrev way : RationalPoint → RationalPoint → Point
@@ -20,7 +20,7 @@ along : (ax ay bx by px py pw qx qy qw : ℤ) →
 along ax ay bx by px py pw qx qy qw = rw (diff_of ax, diff_of ay, diff_of bx, diff_of by, diff_of px, diff_of py, diff_of pw, diff_of qx, diff_of qy, diff_of qw) (simp diffs (diff_same _ _ _ _ (omega arith)))
 
 along_line : (a b : Point) (p q : RationalPoint) →
-    cross_product (direction a b) (way p q) ≡ (q.w *ℤ side_of_point a b p) -ℤ (p.w *ℤ side_of_point a b q)
+    cross_product (direction a b) (way p q) ≡ (q.w *ℤ point_orientation a b p) -ℤ (p.w *ℤ point_orientation a b q)
 along_line a b p q = along a.x a.y b.x b.y p.x p.y p.w q.x q.y q.w
 
 -- what goes along two directions
@@ -38,8 +38,8 @@ one_point s t across p q at_p at_q =
     let d = direction s.a s.b in
     let e = direction t.a t.b in
     let u = way p q in
-    let over_s : cross_product d u ≡ pos 0 = omega (arith, ints, along_line s.a s.b p q, times_zero q.w (side_of_point s.a s.b p) (side-on s.a s.b p at_p.0), times_zero p.w (side_of_point s.a s.b q) (side-on s.a s.b q at_q.0)) in
-    let over_t : cross_product e u ≡ pos 0 = omega (arith, ints, along_line t.a t.b p q, times_zero q.w (side_of_point t.a t.b p) (side-on t.a t.b p at_p.1), times_zero p.w (side_of_point t.a t.b q) (side-on t.a t.b q at_q.1)) in
+    let over_s : cross_product d u ≡ pos 0 = omega (arith, ints, along_line s.a s.b p q, times_zero q.w (point_orientation s.a s.b p) (side-on s.a s.b p at_p.0), times_zero p.w (point_orientation s.a s.b q) (side-on s.a s.b q at_q.0)) in
+    let over_t : cross_product e u ≡ pos 0 = omega (arith, ints, along_line t.a t.b p q, times_zero q.w (point_orientation t.a t.b p) (side-on t.a t.b p at_p.1), times_zero p.w (point_orientation t.a t.b q) (side-on t.a t.b q at_q.1)) in
     let no_x : u.x ≡ pos 0 = zero_factor (cross_product d e) u.x across (omega (arith, ints, across_x d e u, times_zero e.x (cross_product d u) over_s, times_zero d.x (cross_product e u) over_t)) in
     let no_y : u.y ≡ pos 0 = zero_factor (cross_product d e) u.y across (omega (arith, ints, across_y d e u, times_zero e.y (cross_product d u) over_s, times_zero d.y (cross_product e u) over_t)) in
     record { same_x = omega (arith, ints, no_x); same_y = omega (arith, ints, no_y) }

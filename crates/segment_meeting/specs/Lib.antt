@@ -1,3 +1,3 @@
-pub mod Sides
+pub mod Orientation
 pub mod Folds
 pub mod OnePoint

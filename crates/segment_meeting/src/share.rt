@@ -1,8 +1,8 @@
 //! Whether two segments share a point.
 ghost use Rattle.std.specs.Prelude.{◌≡◌, false, IsTrue, ◌↔◌};
 ghost use Rattle.nest_base.specs.Plane.{RationalPoint, MeetIn};
-ghost use Rattle.nest_base.specs.Range.{IsSegmentWithin};
-ghost use Rattle.segment_meeting.specs.Sides.{AreBefore, AreBoxesApart, LieAside};
+ghost use Rattle.nest_base.specs.Range.{IsSegmentWithin, widest};
+ghost use Rattle.segment_meeting.specs.Orientation.{AreBefore, AreBoxesApart, LieAside};
 
 use nest_base::{Segment, cross};
 
@@ -38,8 +38,8 @@ fn are_boxes_apart(s: &Segment, t: &Segment) -> bool
 
 /// Whether both ends of `t` lie strictly on one side of the line of `s`.
 fn has_aside(s: &Segment, t: &Segment) -> bool
-    requires s_within { IsSegmentWithin 2000000000 s.now }
-    requires t_within { IsSegmentWithin 2000000000 t.now }
+    requires s_within { IsSegmentWithin widest s.now }
+    requires t_within { IsSegmentWithin widest t.now }
     ensures { IsTrue result ↔ LieAside s.now.a s.now.b t.now.a t.now.b }
 {
     let first = cross(s.a, s.b, t.a);
@@ -52,8 +52,8 @@ fn has_aside(s: &Segment, t: &Segment) -> bool
 /// All coordinates lie within 2,000,000,000 micrometres. Nothing is allocated. Boxes that lie apart are told before any product is
 /// taken, since of many segments nearly all pairs are such.
 pub fn share_point(s: &Segment, t: &Segment) -> bool
-    requires s_within { IsSegmentWithin 2000000000 s.now }
-    requires t_within { IsSegmentWithin 2000000000 t.now }
+    requires s_within { IsSegmentWithin widest s.now }
+    requires t_within { IsSegmentWithin widest t.now }
     ensures found { IsTrue result → (p : RationalPoint) × MeetIn s.now t.now p }
     ensures none { result ≡ false → (p : RationalPoint) → MeetIn s.now t.now p → ⊥ }
 {

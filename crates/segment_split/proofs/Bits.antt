@@ -4,7 +4,7 @@ use Rattle.std.specs.Prelude.{unsigned_abs, neg_ℤ}
 use Rattle.std.specs.Int.{w64, w128}
 use Rattle.std.proofs.lemmas.Int.{ints, to_z-of_z, fits_signed_from_abs}
 use Rattle.std.proofs.lemmas.Bool.{eqb-true}
-use Rattle.nest_base.specs.Range.{IsNear}
+use Rattle.nest_base.specs.Range.{IsNear, widest}
 
 -- the negation of a number is exact
 pub neg-fits : (a : ℤ) → unsigned_abs a < 2 ^ 66 → FitsSigned w128 (pos 0 -ℤ to_z w128 (of_z w128 a))
@@ -32,8 +32,8 @@ same_bits a b p q = (
 )
 
 -- a coordinate within the range is read back from 128 bits and from 64
-pub near_read : (z : ℤ) → IsNear 2000000000 z → to_z w128 (of_z w128 z) ≡ z
+pub near_read : (z : ℤ) → IsNear widest z → to_z w128 (of_z w128 z) ≡ z
 near_read z near = omega (arith, ints)
 
-pub near_cast : (z : ℤ) → IsNear 2000000000 z → to_z w64 (of_z w64 (to_z w128 (of_z w128 z))) ≡ z
+pub near_cast : (z : ℤ) → IsNear widest z → to_z w64 (of_z w64 (to_z w128 (of_z w128 z))) ≡ z
 near_cast z near = omega (arith, ints)

@@ -5,15 +5,15 @@ use Rattle.std.proofs.lemmas.Int.{ints, by_lt_z}
 use Rattle.nest_base.specs.declared.places.Point.{Point}
 use Rattle.nest_base.specs.declared.places.Segment.{Segment}
 use Rattle.nest_base.specs.Plane.{RationalPoint, rational, IsAt, MeetIn}
-use Rattle.nest_base.specs.Range.{IsSegmentWithin}
+use Rattle.nest_base.specs.Range.{IsSegmentWithin, widest}
 use Rattle.plate_edges.specs.Cuts.{IsParallel, IsFloor}
-use Rattle.segment_meeting.specs.Sides.{side_of}
+use Rattle.segment_meeting.specs.Orientation.{orientation}
 use Rattle.nest_base.proofs.Points.{same_place}
 use Rattle.segment_meeting.proofs.Along.{point_along}
 use Rattle.plate_edges.proofs.Scaled.{place_on}
 use Rattle.segment_meeting.proofs.Apart.{not_aside}
 use Rattle.segment_meeting.proofs.Crossing.{turn, MeetsAlong, crossing_left, crossing_right}
-use Rattle.segment_split.specs.Meetings.{IsTurn, MeetAlong, along, CrossesNear}
+use Rattle.segment_split.specs.Meetings.{IsTurn, MeetAlong, numerator_along, CrossesNear}
 use Rattle.segment_split.proofs.Sizes.{turn-small}
 use Rattle.segment_split.proofs.Floors.{floor_of_multiple}
 
@@ -24,23 +24,23 @@ meet_along s t part whole small meets = record {
 }
 
 -- where t turns left of s they meet at the fraction side / k of the way along s
-pub crosses_left : (s t : Segment) (side k : ℤ) → IsSegmentWithin 2000000000 s → IsSegmentWithin 2000000000 t → (p : RationalPoint) × MeetIn s t p →
-    side ≡ side_of t.a t.b s.a → IsTurn s t k → (IsParallel s t → ⊥) → pos 0 ≤ℤ k → MeetAlong s t side k
+pub crosses_left : (s t : Segment) (side k : ℤ) → IsSegmentWithin widest s → IsSegmentWithin widest t → (p : RationalPoint) × MeetIn s t p →
+    side ≡ orientation t.a t.b s.a → IsTurn s t k → (IsParallel s t → ⊥) → pos 0 ≤ℤ k → MeetAlong s t side k
 crosses_left s t side k in_s in_t (p, (on_s, on_t)) is_side is_turn across not_right =
     let left : pos 0 <ℤ k = by_lt_z (pos 0) k (λ h. h) (λ not_left. let none : k ≡ pos 0 = omega (arith, ints) in absurd (across (sym is_turn ∙ none))) in
     let meets = crossing_left s.a s.b t.a t.b (rw is_turn at left) (not_aside s.a s.b t.a t.b p on_s on_t) (not_aside t.a t.b s.a s.b p on_t on_s) in
-    rw (is_side, is_turn) (meet_along s t (side_of t.a t.b s.a) (turn s.a s.b t.a t.b) (turn-small s t in_s in_t) meets)
+    rw (is_side, is_turn) (meet_along s t (orientation t.a t.b s.a) (turn s.a s.b t.a t.b) (turn-small s t in_s in_t) meets)
 
 -- and where it turns right
-pub crosses_right : (s t : Segment) (side k : ℤ) → IsSegmentWithin 2000000000 s → IsSegmentWithin 2000000000 t → (p : RationalPoint) × MeetIn s t p →
-    side ≡ side_of t.a t.b s.a → IsTurn s t k → k <ℤ pos 0 → MeetAlong s t (neg_ℤ side) (neg_ℤ k)
+pub crosses_right : (s t : Segment) (side k : ℤ) → IsSegmentWithin widest s → IsSegmentWithin widest t → (p : RationalPoint) × MeetIn s t p →
+    side ≡ orientation t.a t.b s.a → IsTurn s t k → k <ℤ pos 0 → MeetAlong s t (neg_ℤ side) (neg_ℤ k)
 crosses_right s t side k in_s in_t (p, (on_s, on_t)) is_side is_turn right =
     let meets = crossing_right s.a s.b t.a t.b (rw is_turn at right) (not_aside s.a s.b t.a t.b p on_s on_t) (not_aside t.a t.b s.a s.b p on_t on_s) in
     let small : unsigned_abs (neg_ℤ (turn s.a s.b t.a t.b)) < 2 ^ 66 = omega (arith, ints, turn-small s t in_s in_t) in
-    rw (is_side, is_turn) (meet_along s t (neg_ℤ (side_of t.a t.b s.a)) (neg_ℤ (turn s.a s.b t.a t.b)) small meets)
+    rw (is_side, is_turn) (meet_along s t (neg_ℤ (orientation t.a t.b s.a)) (neg_ℤ (turn s.a s.b t.a t.b)) small meets)
 
 -- a place is that point where each of its coordinates is, times `whole`
-pub meets_at : (s t : Segment) (part whole : ℤ) (q : Point) → MeetAlong s t part whole → q.x *ℤ whole ≡ along s.a.x s.b.x part whole → q.y *ℤ whole ≡ along s.a.y s.b.y part whole → MeetIn s t (rational q)
+pub meets_at : (s t : Segment) (part whole : ℤ) (q : Point) → MeetAlong s t part whole → q.x *ℤ whole ≡ numerator_along s.a.x s.b.x part whole → q.y *ℤ whole ≡ numerator_along s.a.y s.b.y part whole → MeetIn s t (rational q)
 meets_at s t part whole q meets exact_x exact_y =
     let p = point_along s.a s.b part whole meets.fraction.positive in
     let at : IsAt p q = same_place (sym exact_x) (sym exact_y) in
@@ -48,8 +48,8 @@ meets_at s t part whole q meets exact_x exact_y =
 
 -- and else that point is no place
 pub crosses_near : (s t : Segment) (part whole : ℤ) (q : Point) → MeetAlong s t part whole → (IsParallel s t → ⊥) →
-    IsFloor (along s.a.x s.b.x part whole) whole q.x → IsFloor (along s.a.y s.b.y part whole) whole q.y →
-    ((q.x *ℤ whole ≡ along s.a.x s.b.x part whole) × (q.y *ℤ whole ≡ along s.a.y s.b.y part whole) → ⊥) → CrossesNear s t q
+    IsFloor (numerator_along s.a.x s.b.x part whole) whole q.x → IsFloor (numerator_along s.a.y s.b.y part whole) whole q.y →
+    ((q.x *ℤ whole ≡ numerator_along s.a.x s.b.x part whole) × (q.y *ℤ whole ≡ numerator_along s.a.y s.b.y part whole) → ⊥) → CrossesNear s t q
 crosses_near s t part whole q meets across down_x down_y inexact =
     let p = point_along s.a s.b part whole meets.fraction.positive in
     record {

@@ -9,16 +9,14 @@ use Rattle.nest_base.specs.declared.places.Point.{Point}
 use Rattle.nest_base.specs.declared.places.Segment.{Segment}
 use Rattle.nest_base.specs.Plane.{direction}
 use Rattle.nest_base.proofs.Directions.{cross_product-self}
+use Rattle.nest_base.proofs.ListReads.{Contains-from_read}
 use Rattle.plate_edges.specs.Cuts.{CrossesOffLattice}
 use Rattle.segment_split.specs.CutPoints.{CrossesFirst}
 use Rattle.segment_split.specs.Splits.{AreCrossing, IsFirstCrossing}
 use Rattle.segment_split.proofs.Meetings.{CrossesOffLattice-turned}
 use Rattle.segment_split.proofs.SplitSoFar.{CrossesNone}
 
--- what is found at an index is in the list, and in its part in front of a later index
-found_among : (xs : List Segment) (i : ℕ) (x : Segment) → slice_get xs i ≡ Some x → Contains xs x
-found_among xs i x found = (i, slice_get_within xs i x found, get_or_from_slice_get xs i x x found)
-
+-- what is found at an index is in the front of the list that ends at a later index
 found_in_front : (xs : List Segment) (i n : ℕ) (x : Segment) → slice_get xs i ≡ Some x → i < n → Contains (take n xs) x
 found_in_front xs i n x found below =
     (i, omega (arith, slice_get_within xs i x found, length-take n xs), get_or-take n xs i x below ∙ get_or_from_slice_get xs i x x found)
@@ -42,7 +40,7 @@ crosses_later segments index other s t cut s_found t_found crosses = elim (cases
   | inr (inl less) ↦ less
   | inr (inr more) ↦
       let none : CrossesNone segments t = All-contains (CrossesNone segments) (take index segments) t cut (found_in_front segments other index t t_found more) in
-      absurd (All-contains (λ u. CrossesOffLattice t u → ⊥) segments s none (found_among segments index s s_found) (CrossesOffLattice-turned s t crosses))
+      absurd (All-contains (λ u. CrossesOffLattice t u → ⊥) segments s none (Contains-from_read segments index s s_found) (CrossesOffLattice-turned s t crosses))
 ]
 
 -- no pair comes before that of s and the first segment that it crosses
@@ -61,7 +59,7 @@ comes_first segments index other s place cut s_found first m n p pair = elim (ca
   | inr (inl less) ↦ inl (omega (arith, less, pair.numbers))
   | inr (inr more) ↦
       let none : CrossesNone segments pair.s = All-contains (CrossesNone segments) (take index segments) pair.s cut (found_in_front segments pair.i index pair.s pair.found.0 more) in
-      absurd (All-contains (λ u. CrossesOffLattice pair.s u → ⊥) segments pair.t none (found_among segments pair.j pair.t pair.found.1) pair.crosses.crosses)
+      absurd (All-contains (λ u. CrossesOffLattice pair.s u → ⊥) segments pair.t none (Contains-from_read segments pair.j pair.t pair.found.1) pair.crosses.crosses)
 ]
 
 -- the first segment that crosses any, and the first that it crosses

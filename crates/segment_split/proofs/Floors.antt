@@ -6,10 +6,10 @@ use Rattle.std.proofs.lemmas.Int.{ints, by_lt_z}
 use Rattle.nest_base.proofs.Signs.{mul_nonneg, mul_pos}
 use Rattle.plate_edges.specs.Cuts.{IsFloor}
 use Rattle.nest_base.specs.Plane.{IsBetween}
-use Rattle.nest_base.specs.Range.{IsNear}
+use Rattle.nest_base.specs.Range.{IsNear, widest}
 use Rattle.segment_meeting.proofs.Factors.{sub-mul}
 use Rattle.segment_meeting.proofs.Along.{between_along}
-use Rattle.segment_split.specs.Meetings.{IsPart, along}
+use Rattle.segment_split.specs.Meetings.{IsPart, numerator_along}
 use Rattle.segment_split.proofs.Sizes.{start-small}
 
 next-mul : (n w : ℤ) → (n +ℤ pos 1) *ℤ w ≡ (n *ℤ w) +ℤ w
@@ -45,13 +45,13 @@ floor_of_multiple z w n m some floor e =
     rw same (sym e)
 
 -- a coordinate along a segment within the range, rounded down, lies within it too
-pub floor-near : (from to part whole n : ℤ) → IsNear 2000000000 from → IsNear 2000000000 to → IsPart part whole → IsFloor (along from to part whole) whole n → IsNear 2000000000 n
+pub floor-near : (from to part whole n : ℤ) → IsNear widest from → IsNear widest to → IsPart part whole → IsFloor (numerator_along from to part whole) whole n → IsNear widest n
 floor-near from to part whole n from_near to_near fraction floor = cases (between_along from to part whole fraction.from_zero fraction.to_one)
   where
     z : ℤ
-    z = along from to part whole
+    z = numerator_along from to part whole
 
-    cases : IsBetween (from *ℤ whole) z (to *ℤ whole) → IsNear 2000000000 n
+    cases : IsBetween (from *ℤ whole) z (to *ℤ whole) → IsNear widest n
     cases (inl h) =
         let low = floor-above z whole n from fraction.positive floor h.0 in
         let high = floor-below z whole n to fraction.positive floor h.1 in
@@ -64,11 +64,11 @@ floor-near from to part whole n from_near to_near fraction floor = cases (betwee
 -- a coordinate along a segment, rounded down to `down`, and the sizes that the code counts on
 pub record IsQuotient (exact whole down : ℤ) : Type 0 where
   pub floor : IsFloor exact whole down
-  pub near : IsNear 2000000000 down
+  pub near : IsNear widest down
   pub small : unsigned_abs (down *ℤ whole) < 2 ^ 98
 
-pub quotient : (from to part whole down : ℤ) → IsNear 2000000000 from → IsNear 2000000000 to → IsPart part whole → down ≡ int_div_euclid (along from to part whole) whole → IsQuotient (along from to part whole) whole down
+pub quotient : (from to part whole down : ℤ) → IsNear widest from → IsNear widest to → IsPart part whole → down ≡ int_div_euclid (numerator_along from to part whole) whole → IsQuotient (numerator_along from to part whole) whole down
 quotient from to part whole down from_near to_near fraction is_down =
-    let floor : IsFloor (along from to part whole) whole down = rw is_down (floor_is (along from to part whole) whole fraction.positive) in
+    let floor : IsFloor (numerator_along from to part whole) whole down = rw is_down (floor_is (numerator_along from to part whole) whole fraction.positive) in
     let near = floor-near from to part whole down from_near to_near fraction floor in
     record { floor = floor; near = near; small = start-small down part whole near fraction }

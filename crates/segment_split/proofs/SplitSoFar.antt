@@ -10,6 +10,7 @@ use Rattle.nest_base.specs.declared.places.Segment.{Segment}
 use Rattle.nest_base.specs.declared.places.Edge.{Edge}
 use Rattle.nest_base.specs.Selection.{Enumerates, EnumeratesBy}
 use Rattle.nest_base.specs.Order.{IsBefore}
+use Rattle.nest_base.specs.Limits.{most_segments, most_edges}
 use Rattle.nest_base.proofs.Lists.{AllZip-append, All-from_contains}
 use Rattle.plate_edges.specs.Cuts.{CrossesOffLattice, NoneCrossesOffLattice}
 use Rattle.plate_edges.specs.Edges.{IsEdge, IsEdgeBefore, AreEdgesOf}
@@ -37,8 +38,8 @@ pub record AreCut (segments some : List Segment) (edges : List Edge) (count : �
   pub on_lattice : All (CrossesNone segments) some
   pub have_pieces : SomeHavePieces segments some count
   pub few : count ≤ 40000 * length some
-  pub as_many : count ≤ 2000000 → length edges ≡ count
-  pub are_all : count ≤ 2000000 → (e : Edge) → Contains edges e ↔ IsPieceOfOne segments some e
+  pub as_many : count ≤ most_edges → length edges ≡ count
+  pub are_all : count ≤ most_edges → (e : Edge) → Contains edges e ↔ IsPieceOfOne segments some e
 
 -- one segment more has so many more pieces
 more_pieces : (segments some : List Segment) (s : Segment) (count n : ℕ) → SomeHavePieces segments some count → HasPieces segments s n → SomeHavePieces segments (some ++ s ∷ []) (count + n)
@@ -66,9 +67,9 @@ more_edges segments some s places edges cuts so_far e = (to, from)
     ]
 
 -- one segment more is cut
-pub one_more_is_cut : (segments : List Segment) (i : ℕ) (d : Segment) (edges after : List Edge) (count next : ℕ) (places : List Point) → i < length segments → length segments ≤ 20000 →
+pub one_more_is_cut : (segments : List Segment) (i : ℕ) (d : Segment) (edges after : List Edge) (count next : ℕ) (places : List Point) → i < length segments → length segments ≤ most_segments →
     AreCut segments (take i segments) edges count → AreCutPoints segments (get_or segments i d) places → length places ≤ 2 * length segments → CrossesNone segments (get_or segments i d) →
-    next ≡ count + (length places - 1) → (next ≤ 2000000 → after ≡ edges ++ pieces_between places) → AreCut segments (take (i + 1) segments) after next
+    next ≡ count + (length places - 1) → (next ≤ most_edges → after ≡ edges ++ pieces_between places) → AreCut segments (take (i + 1) segments) after next
 one_more_is_cut segments i d edges after count next places within few cut cuts short crosses_none counted added =
     let some = take i segments in
     let s = get_or segments i d in
@@ -92,7 +93,7 @@ piece_is_edge segments e = (
 )
 
 -- so all pieces in order are all edges
-pub edges_from_pieces : (segments : List Segment) (edges all : List Edge) (count : ℕ) → AreCut segments segments edges count → count ≤ 2000000 →
+pub edges_from_pieces : (segments : List Segment) (edges all : List Edge) (count : ℕ) → AreCut segments segments edges count → count ≤ most_edges →
     EnumeratesBy IsEdgeBefore (Contains edges) all → AreEdgesOf segments all
 edges_from_pieces segments edges all count cut few sorted =
     enumerates_too IsEdgeBefore IsEdgeBefore (Contains edges) (IsEdge segments) (λ e f before. before)

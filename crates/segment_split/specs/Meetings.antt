@@ -31,10 +31,10 @@ pub record IsPart (part whole : ℤ) : Type 0 where
   pub small : unsigned_abs whole < 2 ^ 66
 
 -- the coordinate at this fraction of the way from one to another, times `whole`
-abbrev pub along : (from to part whole : ℤ) → ℤ
-along from to part whole = (from *ℤ whole) +ℤ ((to -ℤ from) *ℤ part)
+abbrev pub numerator_along : (from to part whole : ℤ) → ℤ
+numerator_along from to part whole = (from *ℤ whole) +ℤ ((to -ℤ from) *ℤ part)
 
 -- the point at this fraction of the way along s is a common point of s and t
 pub record MeetAlong (s t : Segment) (part whole : ℤ) : Type 0 where
   pub fraction : IsPart part whole
-  pub meet : MeetIn s t (record { x = along s.a.x s.b.x part whole; y = along s.a.y s.b.y part whole; w = whole; positive = fraction.positive })
+  pub meet : MeetIn s t (record { x = numerator_along s.a.x s.b.x part whole; y = numerator_along s.a.y s.b.y part whole; w = whole; positive = fraction.positive })

@@ -3,6 +3,7 @@ use Rattle.std.specs.Prelude.{◌≡◌, ◌⊎◌, ℕ, ◌+◌, ◌<◌, ◌�
 use Rattle.nest_base.specs.declared.places.Point.{Point}
 use Rattle.nest_base.specs.declared.places.Segment.{Segment}
 use Rattle.nest_base.specs.declared.places.Edge.{Edge}
+use Rattle.nest_base.specs.Limits.{most_edges}
 use Rattle.plate_edges.specs.Cuts.{NoneCrossesOffLattice}
 use Rattle.plate_edges.specs.Edges.{AreEdgesOf}
 use Rattle.plate_edges.specs.Pieces.{HavePieces}
@@ -30,7 +31,7 @@ pub record IsSplit (segments : List Segment) (edges : List Edge) : Type 0 where
   pub on_lattice : NoneCrossesOffLattice segments
   pub pieces : ℕ
   pub have_pieces : HavePieces segments pieces
-  pub few : pieces ≤ 2000000
+  pub few : pieces ≤ most_edges
   pub are_edges : AreEdgesOf segments edges
 
 -- the pieces are too many
@@ -38,7 +39,7 @@ pub record AreTooMany (segments : List Segment) : Type 0 where
   pub on_lattice : NoneCrossesOffLattice segments
   pub pieces : ℕ
   pub have_pieces : HavePieces segments pieces
-  pub many : 2000000 < pieces
+  pub many : most_edges < pieces
 
 -- the reason holds of the segments, but for want of memory
 abbrev pub IsSplitRefusal : SplitError → List Segment → Type 0

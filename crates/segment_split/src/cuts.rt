@@ -1,7 +1,7 @@
 //! The cut points of one segment.
 ghost use Rattle.std.specs.Prelude.{◌≡◌, ◌*◌, ◌≤◌, length, All, Contains, IfOk, IfErr, IfNone, IfSome, OnOk};
 ghost use Rattle.nest_base.specs.Order.{IsBefore};
-ghost use Rattle.nest_base.specs.Range.{IsWithin, IsSegmentWithin};
+ghost use Rattle.nest_base.specs.Range.{IsWithin, IsSegmentWithin, widest};
 ghost use Rattle.nest_base.specs.Selection.{EnumeratesBy};
 ghost use Rattle.plate_edges.specs.Cuts.{HasLength, IsParallel, IsCutPoint, CrossesOffLattice};
 ghost use Rattle.segment_split.specs.Meetings.{CrossesNear};
@@ -35,8 +35,8 @@ impl From<OutOfMemory> for CutError {
 
 /// Adds `p` where it lies on `s`.
 fn put_where_on(s: &Segment, p: Point, places: &mut Vec<Point>) -> Result<(), OutOfMemory>
-    requires s_within { IsSegmentWithin 2000000000 s.now }
-    requires p_within { IsWithin 2000000000 p }
+    requires s_within { IsSegmentWithin widest s.now }
+    requires p_within { IsWithin widest p }
     ensures { OnOk result (AddsPlaces (IsPlaceOn s.now p) 1 places.old.items places.new.items) }
 {
     if between(p, s) {
@@ -47,8 +47,8 @@ fn put_where_on(s: &Segment, p: Point, places: &mut Vec<Point>) -> Result<(), Ou
 
 /// Adds the ends of `t` that lie on `s`; the two are parallel.
 fn put_ends_on(s: &Segment, t: &Segment, places: &mut Vec<Point>) -> Result<(), OutOfMemory>
-    requires s_within { IsSegmentWithin 2000000000 s.now }
-    requires t_within { IsSegmentWithin 2000000000 t.now }
+    requires s_within { IsSegmentWithin widest s.now }
+    requires t_within { IsSegmentWithin widest t.now }
     requires parallel { IsParallel s.now t.now }
     ensures { OnOk result (AddsPlaces (IsCutBy s.now t.now) 2 places.old.items places.new.items) }
 {
@@ -60,8 +60,8 @@ fn put_ends_on(s: &Segment, t: &Segment, places: &mut Vec<Point>) -> Result<(), 
 /// Adds the places at which `t` cuts `s`: its ends that lie on `s`, and where they aren't parallel their common point. `Some`
 /// where that is no place: it is then told, rounded down.
 fn put_cuts(s: &Segment, t: &Segment, places: &mut Vec<Point>) -> Result<Option<Point>, OutOfMemory>
-    requires s_within { IsSegmentWithin 2000000000 s.now }
-    requires t_within { IsSegmentWithin 2000000000 t.now }
+    requires s_within { IsSegmentWithin widest s.now }
+    requires t_within { IsSegmentWithin widest t.now }
     ensures none { IfOk result (λ crossing. IfNone crossing (CrossesOffLattice s.now t.now → ⊥)) }
     ensures added { IfOk result (λ crossing. IfNone crossing (AddsPlaces (IsCutBy s.now t.now) 2 places.old.items places.new.items)) }
     ensures crosses { IfOk result (λ crossing. IfSome crossing (λ place. CrossesNear s.now t.now place)) }
@@ -85,7 +85,7 @@ fn put_cuts(s: &Segment, t: &Segment, places: &mut Vec<Point>) -> Result<Option<
 /// Coordinates are micrometres. `OffLattice` comes where `s` crosses one of them off the lattice, and tells the first. Takes
 /// **O(n + m log m)** for n segments, of which m meet `s`, and memory for their places.
 pub fn cut_points(alloc: Global, segments: &[Segment], s: &Segment) -> Result<Vec<Point>, CutError>
-    requires within { All (IsSegmentWithin 2000000000) segments.now }
+    requires within { All (IsSegmentWithin widest) segments.now }
     requires lengths { All HasLength segments.now }
     requires among { Contains segments.now s.now }
     ensures places { IfOk result (λ places. EnumeratesBy IsBefore (IsCutPoint segments.now s.now) places.items) }

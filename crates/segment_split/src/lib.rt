@@ -16,8 +16,3 @@ pub mod splitting;
 
 pub use meet::{Meeting, meeting_of};
 pub use splitting::{SplitError, split};
-
-#[cfg(test)]
-mod meet_tests;
-#[cfg(test)]
-mod tests;

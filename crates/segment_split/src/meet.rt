@@ -1,9 +1,9 @@
 //! Where two segments meet.
 ghost use Rattle.std.specs.Prelude.{◌≡◌, ◌*ℤ◌, IsTrue, ◌↔◌};
 ghost use Rattle.nest_base.specs.Plane.{RationalPoint, MeetIn};
-ghost use Rattle.nest_base.specs.Range.{IsNear, IsSegmentWithin};
+ghost use Rattle.nest_base.specs.Range.{IsNear, IsSegmentWithin, widest};
 ghost use Rattle.plate_edges.specs.Cuts.{IsFloor, IsParallel};
-ghost use Rattle.segment_split.specs.Meetings.{IsMeeting, IsTurn, IsPart, MeetAlong, along};
+ghost use Rattle.segment_split.specs.Meetings.{IsMeeting, IsTurn, IsPart, MeetAlong, numerator_along};
 
 use nest_base::{Point, Segment, cross};
 use segment_meeting::share_point;
@@ -37,8 +37,8 @@ struct Rounded {
 
 /// By how much the way along `t` turns left of that along `s`.
 fn turn_from(s: &Segment, t: &Segment) -> i128
-    requires s_within { IsSegmentWithin 2000000000 s.now }
-    requires t_within { IsSegmentWithin 2000000000 t.now }
+    requires s_within { IsSegmentWithin widest s.now }
+    requires t_within { IsSegmentWithin widest t.now }
     ensures { IsTurn s.now t.now result }
 {
     cross(s.a, s.b, t.b) - cross(s.a, s.b, t.a)
@@ -46,8 +46,8 @@ fn turn_from(s: &Segment, t: &Segment) -> i128
 
 /// How far along `s` it meets `t`, to which it isn't parallel.
 fn crossing_on(s: &Segment, t: &Segment, turn: i128) -> Fraction
-    requires s_within { IsSegmentWithin 2000000000 s.now }
-    requires t_within { IsSegmentWithin 2000000000 t.now }
+    requires s_within { IsSegmentWithin widest s.now }
+    requires t_within { IsSegmentWithin widest t.now }
     requires turn { IsTurn s.now t.now turn }
     requires not_parallel { IsParallel s.now t.now → ⊥ }
     requires meet { (p : RationalPoint) × MeetIn s.now t.now p }
@@ -68,21 +68,21 @@ fn crossing_on(s: &Segment, t: &Segment, turn: i128) -> Fraction
 
 /// The coordinate at a fraction of the way from one to another, times `f.whole`.
 fn coordinate_along(from: i64, to: i64, f: Fraction) -> i128
-    requires from_near { IsNear 2000000000 from }
-    requires to_near { IsNear 2000000000 to }
+    requires from_near { IsNear widest from }
+    requires to_near { IsNear widest to }
     requires fraction { IsPart f.part f.whole }
-    ensures { result ≡ along from to f.part f.whole }
+    ensures { result ≡ numerator_along from to f.part f.whole }
 {
     i128::from(from) * f.whole + (i128::from(to) - i128::from(from)) * f.part
 }
 
 /// The coordinate at a fraction of the way from one to another, rounded down.
 fn rounded_along(from: i64, to: i64, f: Fraction) -> Rounded
-    requires from_near { IsNear 2000000000 from }
-    requires to_near { IsNear 2000000000 to }
+    requires from_near { IsNear widest from }
+    requires to_near { IsNear widest to }
     requires fraction { IsPart f.part f.whole }
-    ensures down { IsFloor (along from to f.part f.whole) f.whole result.down }
-    ensures exact { IsTrue result.is_exact ↔ ((result.down *ℤ f.whole) ≡ along from to f.part f.whole) }
+    ensures down { IsFloor (numerator_along from to f.part f.whole) f.whole result.down }
+    ensures exact { IsTrue result.is_exact ↔ ((result.down *ℤ f.whole) ≡ numerator_along from to f.part f.whole) }
 {
     let exact = coordinate_along(from, to, f);
     let down = exact.div_euclid(f.whole);
@@ -97,8 +97,8 @@ fn rounded_along(from: i64, to: i64, f: Fraction) -> Rounded
 /// Coordinates are micrometres and lie within 2,000,000,000. Segments that share no point are `Apart`, parallel or not; a
 /// segment without length is parallel to each. Nothing is allocated.
 pub fn meeting_of(s: &Segment, t: &Segment) -> Meeting
-    requires s_within { IsSegmentWithin 2000000000 s.now }
-    requires t_within { IsSegmentWithin 2000000000 t.now }
+    requires s_within { IsSegmentWithin widest s.now }
+    requires t_within { IsSegmentWithin widest t.now }
     ensures { IsMeeting result s.now t.now }
 {
     if !share_point(s, t) {

@@ -1,6 +1,7 @@
 //! The pieces of the segments that have been cut so far.
 ghost use Rattle.std.specs.Prelude.{◌≡◌, ◌+◌, ◌-◌, ◌^◌, ◌≤◌, ◌<◌, ◌++◌, [], length, Contains, IsTrue, ◌↔◌, OnOk};
 ghost use Rattle.nest_base.specs.Selection.{EnumeratesBy};
+ghost use Rattle.nest_base.specs.Limits.{most_edges};
 ghost use Rattle.plate_edges.specs.Edges.{IsEdgeBefore};
 ghost use Rattle.segment_split.specs.Pieces.{pieces_between};
 
@@ -34,7 +35,7 @@ impl Pieces {
         requires some { 0 < length places.now }
         requires fits { self.old.count + length places.now < 2 ^ 64 }
         ensures count { OnOk result (self.new.count ≡ self.old.count + (length places.now - 1)) }
-        ensures edges { OnOk result (self.new.count ≤ 2000000 → self.new.edges.items ≡ self.old.edges.items ++ pieces_between places.now) }
+        ensures edges { OnOk result (self.new.count ≤ most_edges → self.new.edges.items ≡ self.old.edges.items ++ pieces_between places.now) }
     {
         self.count += (places.len() - 1) as u64;
         if self.count <= MOST_PIECES {
@@ -45,7 +46,7 @@ impl Pieces {
 
     /// Whether they are more than a drawing may have.
     pub fn are_too_many(&self) -> bool
-        ensures { IsTrue result ↔ (2000000 < self.now.count) }
+        ensures { IsTrue result ↔ (most_edges < self.now.count) }
     {
         self.count > MOST_PIECES
     }

@@ -2,7 +2,8 @@
 ghost use Rattle.std.specs.Prelude.{◌≡◌, ◌≤◌, length, All, AllPairs, IfOk, IfErr, ℕ, ◌↔◌};
 ghost use Rattle.nest_base.specs.Order.{IsBefore};
 ghost use Rattle.nest_base.specs.Plane.{RationalPoint, rational};
-ghost use Rattle.nest_base.specs.Range.{IsSegmentWithin, IsEdgeWithin};
+ghost use Rattle.nest_base.specs.Range.{IsSegmentWithin, IsEdgeWithin, widest};
+ghost use Rattle.nest_base.specs.Limits.{most_segments, most_edges};
 ghost use Rattle.plate_edges.specs.Cuts.{HasLength};
 ghost use Rattle.plate_edges.specs.Edges.{IsInside};
 ghost use Rattle.plate_edges.specs.Points.{IsOnSegments, IsOnEdges, EdgesMeetAtEndsOnly, IsSomeVertex};
@@ -52,12 +53,12 @@ impl From<OutOfMemory> for SplitError {
 ///
 /// Takes **O(n² + m log m)** for n segments with m pieces, and memory for the pieces. `OutOfMemory` comes for want of it.
 pub fn split(alloc: Global, drawing: &Drawing) -> Result<Edges, SplitError>
-    requires few { length drawing.now.segments ≤ 20000 }
+    requires few { length drawing.now.segments ≤ most_segments }
     requires lengths { All HasLength drawing.now.segments }
-    requires within { All (IsSegmentWithin 2000000000) drawing.now.segments }
+    requires within { All (IsSegmentWithin widest) drawing.now.segments }
     // What the edges are.
     ensures split { IfOk result (λ edges. IsSplit drawing.now.segments edges) }
-    ensures most_edges { IfOk result (λ edges. length edges ≤ 2000000) }
+    ensures most_edges { IfOk result (λ edges. length edges ≤ most_edges) }
     // That they are a plane graph of just the points that were drawn.
     ensures points_stay { IfOk result (λ edges. (p : RationalPoint) → IsOnEdges edges p ↔ IsOnSegments drawing.now.segments p) }
     ensures ends_in_order { IfOk result (λ edges. All (λ e. IsBefore e.low e.high) edges) }

@@ -7,7 +7,7 @@ use Rattle.nest_base.specs.declared.places.Edge.{Edge}
 use Rattle.nest_base.specs.Plane.{HalfEdge}
 use Rattle.nest_base.specs.Selection.{Selects, HasCount}
 use Rattle.nest_base.specs.Selection.Selects.{none, taken, passed}
-use Rattle.plate_sides.specs.Sides.{IsHalfEdge, IsHalfEdgeOf}
+use Rattle.plate_sides.specs.HalfEdges.{IsHalfEdge, IsHalfEdgeOf}
 use Rattle.code_moves.specs.declared.moves.Move.{Move}
 use Rattle.code_moves.specs.Moves.{way, lit_moves}
 use Rattle.sound_code.specs.Sound.{IsEdgeMove, IsMoveAlong}

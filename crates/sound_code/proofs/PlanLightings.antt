@@ -7,10 +7,9 @@ use Rattle.std.proofs.lemmas.List.Elements.{recursion_from_All}
 use Rattle.nest_base.specs.declared.places.Point.{Point}
 use Rattle.nest_base.specs.declared.places.Edge.{Edge}
 use Rattle.nest_base.specs.Plane.{HalfEdge}
-use Rattle.nest_base.specs.Routes.{legs}
-use Rattle.plate_covers.specs.Cover.{IsTrail, HasTrailsIn}
+use Rattle.plate_sides.specs.Cover.{IsTrail, HasTrailsIn}
 use Rattle.code_moves.specs.declared.moves.Move.{Move}
-use Rattle.code_moves.specs.BurntChains.{begins_lighting}
+use Rattle.code_moves.specs.BurntChains.{burnt_legs, begins_lighting}
 use Rattle.code_moves.specs.Meaning.{moves_of}
 use Rattle.code_moves.specs.Moves.{way, lit_moves}
 use Rattle.sound_code.specs.Lightings.{Lighting, IsLighting, on_line, put_before, cut_before_fresh}
@@ -22,7 +21,7 @@ marks_of moves = map (λ (m : Move). m.fresh) moves
 
 -- the marks that say where the chains begin
 abbrev marks_in : List (List Point) → List Bool
-marks_in chains = flat_map (λ places. begins_lighting (legs places)) chains
+marks_in chains = flat_map (λ places. begins_lighting (burnt_legs places)) chains
 
 -- the first mark, if there is one, is set
 abbrev BeginsMarked : List Bool → Type 0
@@ -112,23 +111,23 @@ trail_begins edges [] marks trail = absurd trail
 trail_begins edges (h ∷ ways) marks trail = refl
 
 -- and so the first one of any trails
-chains_begin : (edges : List Edge) (chains : List (List Point)) → AllByRecursion (IsTrail edges) (map legs chains) → BeginsMarked (marks_in chains)
+chains_begin : (edges : List Edge) (chains : List (List Point)) → AllByRecursion (IsTrail edges) (map burnt_legs chains) → BeginsMarked (marks_in chains)
 chains_begin edges [] trails = tt
-chains_begin edges (places ∷ chains) trails = trail_begins edges (legs places) (marks_in chains) trails.0
+chains_begin edges (places ∷ chains) trails = trail_begins edges (burnt_legs places) (marks_in chains) trails.0
 
 -- lit moves along chains, where the first of each chain is fresh and no other, are one lighting for each
-lightings_are : (edges : List Edge) (chains : List (List Point)) → AllByRecursion (IsTrail edges) (map legs chains) → (lit : List Move) → map way lit ≡ flat_map legs chains →
+lightings_are : (edges : List Edge) (chains : List (List Point)) → AllByRecursion (IsTrail edges) (map burnt_legs chains) → (lit : List Move) → map way lit ≡ flat_map burnt_legs chains →
     marks_of lit ≡ marks_in chains → AllZip (IsLighting edges) (cut_before_fresh lit) (on_lines chains)
 lightings_are edges [] trails [] are marked = tt
 lightings_are edges [] trails (m ∷ lit) are marked = absurd (cc)
 lightings_are edges (places ∷ chains) trails lit are marked =
-    one_more edges (legs places) (flat_map legs chains) (marks_in chains) (on_lines chains) lit trails.0 (chains_begin edges chains trails.1) are marked (lightings_are edges chains trails.1)
+    one_more edges (burnt_legs places) (flat_map burnt_legs chains) (marks_in chains) (on_lines chains) lit trails.0 (chains_begin edges chains trails.1) are marked (lightings_are edges chains trails.1)
 
 pub burnt_plan_has_lightings : BurntPlanHasLightings
 burnt_plan_has_lightings edges chains bytes plan burnt =
-    lightings_are edges chains (recursion_from_All (IsTrail edges) (map legs chains) plan.covers.are_trails) (lit_moves (moves_of bytes)) burnt.ways burnt.lightings
+    lightings_are edges chains (recursion_from_All (IsTrail edges) (map burnt_legs chains) plan.covers.are_trails) (lit_moves (moves_of bytes)) burnt.ways burnt.lightings
 
 pub plan_has_pierces : PlanHasPierces
 plan_has_pierces edges mark chains n count =
     let In : List (List HalfEdge) → Type 0 = λ trails. HasTrailsIn edges mark trails n in
-    subst In (sym (map-map (λ (l : Lighting). l.trail) (λ places. record { start = None; trail = legs places }) chains)) count
+    subst In (sym (map-map (λ (l : Lighting). l.trail) (λ places. record { start = None; trail = burnt_legs places }) chains)) count

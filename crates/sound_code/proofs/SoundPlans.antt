@@ -4,11 +4,11 @@ use Rattle.std.specs.Prelude.{All}
 use Rattle.std.proofs.lemmas.List.Elements.{All-from_recursion, recursion_from_All}
 use Rattle.std.proofs.lemmas.List.Folds.{flat_map-map}
 use Rattle.nest_base.specs.Plane.{HalfEdge}
-use Rattle.nest_base.specs.Routes.{legs}
 use Rattle.nest_base.specs.Selection.{HasCount}
 use Rattle.nest_base.proofs.Lists.{All-from_contains}
-use Rattle.plate_sides.specs.Sides.{IsHalfEdge, IsHalfEdgeOf}
-use Rattle.plate_covers.specs.Cover.{IsTrail, joined}
+use Rattle.plate_sides.specs.HalfEdges.{IsHalfEdge, IsHalfEdgeOf}
+use Rattle.plate_sides.specs.Cover.{IsTrail, joined}
+use Rattle.code_moves.specs.BurntChains.{burnt_legs}
 use Rattle.code_moves.specs.Meaning.{moves_of}
 use Rattle.code_moves.specs.Moves.{way, lit_moves}
 use Rattle.sound_code.specs.Sound.{IsMoveAlong}
@@ -19,8 +19,8 @@ use Rattle.sound_code.proofs.Trails.{joined_sides}
 pub burnt_plan_is_sound : BurntPlanIsSound
 burnt_plan_is_sound edges chains bytes plan burnt =
     let moves = moves_of bytes in
-    let trails = map legs chains in
-    let ways : map way (lit_moves moves) ≡ joined trails = burnt.ways ∙ sym (flat_map-map (λ (trail : List HalfEdge). trail) legs chains) in
+    let trails = map burnt_legs chains in
+    let ways : map way (lit_moves moves) ≡ joined trails = burnt.ways ∙ sym (flat_map-map (λ (trail : List HalfEdge). trail) burnt_legs chains) in
     let sides = subst (All (IsHalfEdge edges)) (sym ways) (joined_sides edges trails (recursion_from_All (IsTrail edges) trails plan.covers.are_trails)) in
     let only = edge_moves edges moves (recursion_from_All (IsHalfEdge edges) (map way (lit_moves moves)) sides) in
     record {

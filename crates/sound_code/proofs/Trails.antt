@@ -5,8 +5,8 @@ use Rattle.std.specs.Prelude.{All}
 use Rattle.std.proofs.lemmas.List.Elements.{All-nil, All-append, All-from_recursion}
 use Rattle.nest_base.specs.declared.places.Edge.{Edge}
 use Rattle.nest_base.specs.Plane.{HalfEdge}
-use Rattle.plate_sides.specs.Sides.{IsHalfEdge}
-use Rattle.plate_covers.specs.Cover.{IsTrail, joined}
+use Rattle.plate_sides.specs.HalfEdges.{IsHalfEdge}
+use Rattle.plate_sides.specs.Cover.{IsTrail, joined}
 
 -- each is a half-edge of one of the edges
 pub trail_sides : (edges : List Edge) (trail : List HalfEdge) → IsTrail edges trail → AllByRecursion (IsHalfEdge edges) trail

@@ -4,8 +4,8 @@ use Rattle.std.specs.List.{AllZip}
 use Rattle.nest_base.specs.declared.places.Point.{Point}
 use Rattle.nest_base.specs.declared.places.Edge.{Edge}
 use Rattle.nest_base.specs.Plane.{HalfEdge}
-use Rattle.plate_sides.specs.Sides.{IsHalfEdge}
-use Rattle.plate_covers.specs.Cover.{IsTrail, HasTrailsIn}
+use Rattle.plate_sides.specs.HalfEdges.{IsHalfEdge}
+use Rattle.plate_sides.specs.Cover.{IsTrail, HasTrailsIn}
 use Rattle.code_moves.specs.declared.moves.Move.{Move}
 use Rattle.code_moves.specs.Moves.{way, lit_moves}
 

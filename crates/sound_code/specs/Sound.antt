@@ -3,7 +3,7 @@ use Rattle.std.specs.Prelude.{◌≡◌, List, map, IsTrue, All}
 use Rattle.nest_base.specs.declared.places.Edge.{Edge}
 use Rattle.nest_base.specs.Plane.{HalfEdge}
 use Rattle.nest_base.specs.Selection.{Selects, HasCount}
-use Rattle.plate_sides.specs.Sides.{IsHalfEdge, IsHalfEdgeOf}
+use Rattle.plate_sides.specs.HalfEdges.{IsHalfEdge, IsHalfEdgeOf}
 use Rattle.plate_sides.specs.Enclosing.{IsOrderEnclosing}
 use Rattle.code_moves.specs.declared.moves.Move.{Move}
 use Rattle.code_moves.specs.Moves.{way}

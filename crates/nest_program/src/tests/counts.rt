@@ -19,7 +19,7 @@ const GRID: &str = "0=LINE|10=0|20=#|11=1000|21=#|0=LINE|10=#|20=0|11=#|21=1000|
 /// The same of a grid with one line less each way.
 const SMALLER_GRID: &str = "0=LINE|10=0|20=#|11=999|21=#|0=LINE|10=#|20=0|11=#|21=999|";
 
-/// What stands behind the head of a part of entities: one text, another one so often, a third one, and why that's refused, if it is.
+/// What stands behind the head of an ENTITIES section: one text, another one so often, a third one, and why that's refused, if it is.
 type Case = (
     &'static str,
     &'static str,
@@ -169,7 +169,7 @@ fn put_numbered(alloc: Global, text: &[u8], number: usize, out: &mut Vec<u8>) ->
     Ok(())
 }
 
-/// The file of one text, another one so often, and a third one, behind the head of a part of entities.
+/// The file of one text, another one so often, and a third one, behind the head of an ENTITIES section.
 fn file_of(alloc: Global, front: &str, piece: &str, count: usize, rear: &str) -> Result<Vec<u8>> {
     let mut lines = Vec::new(alloc);
     put_lines(piece, "\n", &mut lines)?;

@@ -1,12 +1,12 @@
 //! Drawings of lines that are one loop, or one way.
 ghost use Rattle.std.specs.Prelude.{◌<◌};
 
-use super::{HEAD, TAIL, is_planned, put_lines};
+use super::{HEAD, TAIL, is_planned, put_lines, report_of};
 use anyhow::Result;
 use std::alloc::{AllocError, Global};
 
-/// A drawing of lines, each given as x and y of its two ends.
-pub fn drawing_of(alloc: Global, lines: &[&str]) -> Result<Vec<u8>, AllocError> {
+/// The file of a drawing of lines, each given as x and y of its two ends.
+pub fn file_of_lines(alloc: Global, lines: &[&str]) -> Result<Vec<u8>, AllocError> {
     let mut file = Vec::new(alloc);
     put_lines(HEAD, "\n", &mut file)?;
     for line in lines {
@@ -26,7 +26,7 @@ pub fn drawing_of(alloc: Global, lines: &[&str]) -> Result<Vec<u8>, AllocError> 
 }
 
 /// The code of one chain through these places, each given as its words.
-pub fn code_of(alloc: Global, places: &[&str]) -> Result<String, AllocError> {
+pub fn code_through(alloc: Global, places: &[&str]) -> Result<String, AllocError> {
     let mut code = String::from_str(alloc, "G21 G90\nF1000 S1\n")?;
     for (k, place) in places.iter().enumerate() {
         code.push_str(if k == 0 { "G0 " } else { "G1 " })?;
@@ -35,13 +35,6 @@ pub fn code_of(alloc: Global, places: &[&str]) -> Result<String, AllocError> {
     }
     code.push_str("M5\nM2\n")?;
     Ok(code)
-}
-
-/// The report on one loop of so many edges.
-pub fn report_of(alloc: Global, edges: usize) -> Result<String, AllocError> {
-    format!(in alloc;
-        "component 1 edges {edges} odd 0 bound 1 limit 1 pierces 1\ntotal pierces 1 bound 1\nfewest\n"
-    )
 }
 
 #[test]
@@ -97,9 +90,49 @@ fn loops_are_burnt_from_the_mark_vertex_along_the_mark_side(rt: HostRuntime) -> 
         ),
     ];
     for (what, lines, places) in cases {
-        let drawing = drawing_of(alloc, lines)?;
-        let code = code_of(alloc, places)?;
-        let report = report_of(alloc, lines.len())?;
+        let drawing = file_of_lines(alloc, lines)?;
+        let code = code_through(alloc, places)?;
+        let report = report_of(alloc, &[(lines.len(), 0)])?;
+        is_planned(alloc, what, &drawing, code.as_str(), report.as_str())?;
+    }
+    Ok(())
+}
+
+#[test]
+fn open_ways_are_burnt_towards_the_end_that_comes_first(rt: HostRuntime) -> Result<()> {
+    let alloc = rt.alloc();
+    let cases: [(&str, &[&str], &[&str]); 4] = [
+        (
+            "coordinates are rounded, ties away from zero",
+            &["0.0005 -0.0005 1.5E+1 .5"],
+            &["X15.000 Y0.500", "X0.001 Y-0.001"],
+        ),
+        (
+            "coordinates are rounded to zero",
+            &["0.00049 0E400 5. 1E-400"],
+            &["X5.000 Y0.000", "X0.000 Y0.000"],
+        ),
+        (
+            "the end of the range",
+            &["0 0 100000.000 0"],
+            &["X100000.000 Y0.000", "X0.000 Y0.000"],
+        ),
+        (
+            "a loop that isn't closed by a micrometre",
+            &["0 0 9 0", "9 0 9 9", "9 9 0 9", "0 9 0 0.001"],
+            &[
+                "X0.000 Y0.000",
+                "X9.000 Y0.000",
+                "X9.000 Y9.000",
+                "X0.000 Y9.000",
+                "X0.000 Y0.001",
+            ],
+        ),
+    ];
+    for (what, lines, places) in cases {
+        let drawing = file_of_lines(alloc, lines)?;
+        let code = code_through(alloc, places)?;
+        let report = report_of(alloc, &[(lines.len(), 2)])?;
         is_planned(alloc, what, &drawing, code.as_str(), report.as_str())?;
     }
     Ok(())
@@ -120,7 +153,7 @@ fn strip_of(alloc: Global, width: u32) -> Result<Vec<String>, AllocError>
 }
 
 /// A drawing of the first lines of a strip, `most` at most.
-fn strip_drawing_of(alloc: Global, width: u32, most: usize) -> Result<Vec<u8>, AllocError>
+fn strip_file_of(alloc: Global, width: u32, most: usize) -> Result<Vec<u8>, AllocError>
     requires { width < 10000 }
 {
     let strip = strip_of(alloc, width)?;
@@ -128,7 +161,7 @@ fn strip_drawing_of(alloc: Global, width: u32, most: usize) -> Result<Vec<u8>, A
     for line in strip.iter().take(most) {
         lines.push(line.as_str())?;
     }
-    drawing_of(alloc, &lines)
+    file_of_lines(alloc, &lines)
 }
 
 /// The code of the strip: along the upper level to the east, and along the lower one back.
@@ -150,9 +183,9 @@ fn strip_code_of(alloc: Global, width: u32) -> Result<String, AllocError>
 fn loops_of_many_edges_are_planned(rt: HostRuntime) -> Result<()> {
     let alloc = rt.alloc();
     for (width, edges) in [(1, 4), (99, 200), (500, 1_002)] {
-        let drawing = strip_drawing_of(alloc, width, edges)?;
+        let drawing = strip_file_of(alloc, width, edges)?;
         let code = strip_code_of(alloc, width)?;
-        let report = report_of(alloc, edges)?;
+        let report = report_of(alloc, &[(edges, 0)])?;
         is_planned(alloc, "strip", &drawing, code.as_str(), report.as_str())?;
     }
     Ok(())
@@ -178,11 +211,9 @@ fn open_strip_code_of(alloc: Global, width: u32) -> Result<String, AllocError>
 fn a_long_way_is_planned(rt: HostRuntime) -> Result<()> {
     let alloc = rt.alloc();
     for (width, lines) in [(1, 3), (9_999, 19_999)] {
-        let drawing = strip_drawing_of(alloc, width, lines)?;
+        let drawing = strip_file_of(alloc, width, lines)?;
         let code = open_strip_code_of(alloc, width)?;
-        let report = format!(in alloc;
-            "component 1 edges {lines} odd 2 bound 1 limit 1 pierces 1\ntotal pierces 1 bound 1\nfewest\n"
-        )?;
+        let report = report_of(alloc, &[(lines, 2)])?;
         is_planned(alloc, "way", &drawing, code.as_str(), report.as_str())?;
     }
     Ok(())

@@ -13,14 +13,14 @@ const CORNERS: &str =
     "0=VERTEX|10=0|20=0|0=VERTEX|10=10|20=0|0=VERTEX|10=10|20=10|0=VERTEX|10=0|20=10";
 
 /// Files that give the square, and nothing else.
-const SQUARES: [(&str, &[&str]); 33] = [
+const SQUARES: [(&str, &[&str]); 34] = [
     ("four lines", &[HEAD, SQUARE, TAIL]),
     (
         "a closed polyline",
         &[HEAD, "0=POLYLINE|66=1|70=1", CORNERS, "0=SEQEND", TAIL],
     ),
     (
-        "a closed polyline that the end of its part ends",
+        "a closed polyline that the end of its section ends",
         &[HEAD, "0=POLYLINE|70=1", CORNERS, TAIL],
     ),
     (
@@ -140,6 +140,10 @@ const SQUARES: [(&str, &[&str]); 33] = [
         ],
     ),
     (
+        "an entity in paper space behind the square",
+        &[HEAD, SQUARE, "0=ARC|8=0|10=5.0|20=5.0|40=2.5|67=1", TAIL],
+    ),
+    (
         "loose ends of polylines",
         &[
             HEAD,
@@ -212,7 +216,7 @@ const SQUARES: [(&str, &[&str]); 33] = [
         ],
     ),
     (
-        "sections that are no parts of entities",
+        "sections that hold no entities",
         &[
             "0=SECTION|8=0|2=ENTITIES|0=ARC|0=ENDSEC|0=SECTION|2=ENTITY|0=ARC|0=ENDSEC",
             "0=section|2=ENTITIES|0=ARC|0=SECTION|2=entities|0=ARC|2=ENTITIES|0=ARC|0=ENDSEC",
@@ -223,7 +227,7 @@ const SQUARES: [(&str, &[&str]); 33] = [
         ],
     ),
     (
-        "two parts of entities",
+        "two ENTITIES sections",
         &[
             HEAD,
             LOWER_RIGHT,
@@ -234,7 +238,7 @@ const SQUARES: [(&str, &[&str]); 33] = [
         ],
     ),
     (
-        "groups of a part before its first entity",
+        "groups of a section before its first entity",
         &[HEAD, "10=x|67=x|70=2", SQUARE, TAIL],
     ),
     (

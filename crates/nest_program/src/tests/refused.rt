@@ -1,11 +1,14 @@
 //! Drawings that are refused, each with what is printed of it, and some that aren't.
 
-use super::{ACCEPTED, HEAD, SQUARE, TAIL, file_of, is_answered, put_lines};
+use super::{
+    ACCEPTED, HEAD, SQUARE, TAIL, file_of, is_answered, is_refused, put_lines, square_file,
+};
 use anyhow::Result;
 use std::alloc::Global;
+use std::str;
 
 /// Whole files.
-const FILES: [(&str, &str); 40] = [
+const FILES: [(&str, &str); 41] = [
     ("", "E4 line 1 missing"),
     ("0", "E4 line 2 missing"),
     ("|", "E2 line 1 no group code"),
@@ -22,6 +25,7 @@ const FILES: [(&str, &str); 40] = [
     ("0=EOF|1x=0|0=LINE|", "E10 nothing to cut"),
     ("0=SECTION|2=ENTITIES|0=EOF|", "E10 nothing to cut"),
     ("0=SECTION|2=ENTITIES|0=ENDSEC|0=EOF", "E10 nothing to cut"),
+    ("0=SECTION|2=ENTITIES|0=ENDSEC|0=EOF|", "E10 nothing to cut"),
     (
         "0=SECTION|2=ENTITIES|0=ENDSEC|0=EOF\r|",
         "E10 nothing to cut",
@@ -62,7 +66,7 @@ const FILES: [(&str, &str); 40] = [
         "E4 line 13 missing",
     ),
     ("1x=0|0=EOF", "E2 line 1 no group code"),
-    // Parts of entities.
+    // ENTITIES sections.
     (
         "0=ARC|67=x|2=ENTITIES|0=LINE|10=x|0=EOF|",
         "E10 nothing to cut",
@@ -91,7 +95,7 @@ const FILES: [(&str, &str); 40] = [
         "0=SECTION|2=ENTITIES|0= ENDSEC\t|0=ARC|0=EOF|",
         "E10 nothing to cut",
     ),
-    // A polyline ends with its part.
+    // A polyline ends with its section.
     (
         "0=SECTION|2=ENTITIES|0=POLYLINE|0=ENDSEC|0=SECTION|2=ENTITIES|0=VERTEX|0=EOF|",
         "E8 line 14 VERTEX",
@@ -403,6 +407,14 @@ const BEHIND_A_SQUARE: [(&str, &str); 8] = [
     ("0=POLYLINE|67=1|0=VERTEX|10=x|0=ARC", "E8 line 62 ARC"),
 ];
 
+/// Lines of the square's file, from the first number to before the second, what stands in their place, and why that's refused.
+const CHANGED_LINES: [(usize, usize, &str, &str); 4] = [
+    (55, 57, "", "E4 line 55 missing"),
+    (7, 8, "1x\n", "E2 line 7 no group code"),
+    (10, 11, "1e\n", "E5 line 10 not a number"),
+    (15, 17, "", "E7 line 6 lacks group 21"),
+];
+
 /// Texts of the first coordinate of a line to (1, 0).
 const COORDINATES: [(&str, &str); 40] = [
     ("", "E5 line 8 not a number"),
@@ -499,7 +511,7 @@ const LONG_LINES: [(&str, usize, &str, &str); 11] = [
 ];
 
 #[test]
-fn files_are_refused_by_their_lines_and_parts(rt: HostRuntime) -> Result<()> {
+fn files_are_refused_by_their_lines_and_sections(rt: HostRuntime) -> Result<()> {
     let alloc = rt.alloc();
     for (text, why) in FILES {
         let mut file = Vec::new(alloc);
@@ -536,6 +548,42 @@ fn entities_behind_a_square_are_refused_or_planned(rt: HostRuntime) -> Result<()
         is_answered(alloc, entities, &file, why)?;
     }
     Ok(())
+}
+
+/// The file of the square with this text in the place of its lines from `first` to before `end`, counted from 1.
+fn square_with(alloc: Global, first: usize, end: usize, text: &[u8]) -> Result<Vec<u8>> {
+    let square = square_file(alloc)?;
+    let mut file = Vec::new(alloc);
+    let mut number = 0_usize;
+    for line in str::from_utf8(&square)?.lines() {
+        number = number.saturating_add(1);
+        if number == first {
+            file.extend_from_slice(text)?;
+        }
+        if number < first || number >= end {
+            file.extend_from_slice(line.as_bytes())?;
+            file.push(b'\n')?;
+        }
+    }
+    Ok(file)
+}
+
+#[test]
+fn a_square_is_refused_where_a_line_is_changed_or_missing(rt: HostRuntime) -> Result<()> {
+    let alloc = rt.alloc();
+    for (first, end, text, why) in CHANGED_LINES {
+        let file = square_with(alloc, first, end, text.as_bytes())?;
+        is_refused(alloc, why, &file, why)?;
+    }
+    let mut long = vec![in alloc; b'0'; 4_097]?;
+    long.push(b'\n')?;
+    let file = square_with(alloc, 8, 9, &long)?;
+    is_refused(
+        alloc,
+        "a long line",
+        &file,
+        "E3 line 8 longer than 4096 bytes",
+    )
 }
 
 #[test]

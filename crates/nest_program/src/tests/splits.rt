@@ -1,8 +1,10 @@
 //! Drawings whose lines overlap, touch and cross.
 
-use super::loops::{code_of, drawing_of, report_of};
-use super::{SQUARE_CODE, SQUARE_REPORT, is_planned, is_refused};
+use super::loops::{code_through, file_of_lines};
+use super::{SQUARE_CODE, SQUARE_REPORT, drawing_of, is_planned, is_refused, report_of};
 use anyhow::Result;
+use drawing_samples::Ends;
+use drawing_samples::samples::SQUARE;
 
 /// Drawings with lines that cross off the lattice.
 const OFF_LATTICE: [(&[&str], &str); 9] = [
@@ -53,51 +55,27 @@ const OFF_LATTICE: [(&[&str], &str); 9] = [
 fn crossings_off_the_lattice_are_refused(rt: HostRuntime) -> Result<()> {
     let alloc = rt.alloc();
     for (lines, why) in OFF_LATTICE {
-        is_refused(alloc, why, &drawing_of(alloc, lines)?, why)?;
+        is_refused(alloc, why, &file_of_lines(alloc, lines)?, why)?;
     }
     Ok(())
 }
 
-/// Drawings of the square, with lines that are drawn again.
-const SQUARES: [&[&str]; 4] = [
-    &[
-        "0 0 10 0",
-        "10 0 10 10",
-        "10 10 0 10",
-        "0 10 0 0",
-        "3 3 3 3",
-        "0 0 10 0",
-        "10 0 0 0",
-    ],
-    &[
-        "0 0 10 0",
-        "10 0 10 10",
-        "10 10 0 10",
-        "0 10 0 0",
-        "0 0 10 0",
-    ],
-    &[
-        "0 0 10 0",
-        "10 0 10 10",
-        "10 10 0 10",
-        "0 10 0 0",
-        "10 0 0 0",
-    ],
-    &[
-        "0 10 0 0",
-        "0 0 10 0",
-        "10 0 10 10",
-        "0 10 10 10",
-        "10 10 0 10",
-        "0 0 0 10",
-    ],
+/// What is drawn behind a square that changes nothing: lines of no length, and sides once more, either way round.
+const BEHIND_A_SQUARE: [&[Ends]; 4] = [
+    &[[3, 3, 3, 3], [0, 0, 10, 0], [10, 0, 0, 0]],
+    &[[0, 0, 10, 0]],
+    &[[10, 0, 0, 0]],
+    &[[0, 10, 10, 10], [0, 0, 0, 10]],
 ];
 
 #[test]
 fn lines_that_are_drawn_again_are_cut_once(rt: HostRuntime) -> Result<()> {
     let alloc = rt.alloc();
-    for lines in SQUARES {
-        let drawing = drawing_of(alloc, lines)?;
+    for lines in BEHIND_A_SQUARE {
+        let mut segments = Vec::new(alloc);
+        segments.extend_from_slice(SQUARE.segments)?;
+        segments.extend_from_slice(lines)?;
+        let drawing = drawing_of(alloc, &segments)?;
         is_planned(
             alloc,
             "a repeated line",
@@ -156,9 +134,9 @@ fn overlapping_lines_are_one_cut_in_pieces(rt: HostRuntime) -> Result<()> {
         let mut places = vec![in alloc; "X0.000 Y10.000", "X10.000 Y10.000", "X10.000 Y0.000"]?;
         places.extend_from_slice(between)?;
         places.extend_from_slice(&["X0.000 Y0.000", "X0.000 Y10.000"])?;
-        let code = code_of(alloc, &places)?;
-        let report = report_of(alloc, 4 + between.len())?;
-        let drawing = drawing_of(alloc, &lines)?;
+        let code = code_through(alloc, &places)?;
+        let report = report_of(alloc, &[(4 + between.len(), 0)])?;
+        let drawing = file_of_lines(alloc, &lines)?;
         is_planned(alloc, what, &drawing, code.as_str(), report.as_str())?;
     }
     Ok(())

@@ -1,6 +1,6 @@
-use Rattle.burning_order.specs.NumbersOf.{numbers_of, parent_numbers_of}
-use Rattle.burning_order.specs.Turns.{IsTurnOf}
+use Rattle.nest_base.specs.NumberLists.{parent_numbers, component_numbers}
+use Rattle.burning_order.specs.Turns.{HaveHadTurns}
 use Rattle.burning_order.proofs.order.burning_order.Given as goal
 
 abbrev pub invariant-loop-c : goal.invariant-loop-c
-invariant-loop-c l = IsTurnOf (parent_numbers_of l.parents) l.c (numbers_of l.order.items) l.waiting.items
+invariant-loop-c l = HaveHadTurns (parent_numbers l.parents) l.c (component_numbers l.order.items) l.waiting.items

@@ -1,5 +1,5 @@
 use Rattle.std.proofs.Common.{None}
-use Rattle.half_edges.specs.Graph.{Graph, rotation_of, origin_of}
+use Rattle.half_edges.specs.Graph.{Graph, rotations_of, origin_of}
 use Rattle.cover_walks.specs.Walks.{IsExhausted}
 use Rattle.component_route.specs.Courses.{order_of}
 use Rattle.component_route.specs.States.{WalkHead, FromRoot}
@@ -23,7 +23,7 @@ walk-requires-clause-known c = let (o, h) = c.requires.known in (
 -- the end of the walk
 walked : (c : After-walk) (o : Graph) → FromRoot o c.args.start.0 c.args.graph.now c.args.route.now →
     WalkHead o c.args.start.0 None (origin_of o c.args.start.0) (origin_of o c.walk.result.0) c.args.route.now.stack c.walk.new.graph c.walk.new.route
-    × IsExhausted (rotation_of o) (order_of c.walk.new.route) (origin_of o c.walk.result.0)
+    × IsExhausted (rotations_of o) (order_of c.walk.new.route) (origin_of o c.walk.result.0)
 walked c o h =
     c.walk.ensures.head o c.args.start.0 (origin_of o c.args.start.0) c.args.route.now.stack h.head
     (root_reference o c.args.start.0 c.args.graph.now c.args.route.now h c.ccw.result.0 c.ccw.ensures.number)

@@ -1,7 +1,7 @@
 use Rattle.std.proofs.Common.{◌≡◌, ◌≢◌, ◌∙◌, [], ◌∷◌, sym, ap, subst, ◌<◌, ℕ, List}
 use Rattle.std.proofs.lemmas.Bool.{eqb-true, eqb-false}
-use Rattle.half_edges.specs.Rotation.{to}
-use Rattle.half_edges.specs.Graph.{rotation_of, origin_of}
+use Rattle.rotation_systems.specs.RotationSystem.{to}
+use Rattle.half_edges.specs.Graph.{rotations_of, origin_of}
 use Rattle.cover_walks.specs.Choices.{HasUnburnt, IsReference}
 use Rattle.component_route.specs.declared.choice.Reference.{Reference}
 use Rattle.component_route.specs.Scans.{burnt_in}
@@ -21,9 +21,9 @@ returns-then-eq c o f h e =
     let r = c.args.route.now in
     let here = rotation_here o c.args.start.0 f x r h in
     let same : c.from.result.0 ≡ c.from-in-Some.result.0 = eqb-true c.from.result.0 c.from-in-Some.result.0 (sym c.eq.ensures ∙ c.if-eq.true) in
-    let at : origin_of o c.in-Some.top.0 ≡ to (rotation_of o) f =
+    let at : origin_of o c.in-Some.top.0 ≡ to (rotations_of o) f =
     sym (ap (λ g. g.from c.in-Some.top.0) here) ∙ (sym c.from.ensures.number ∙ (same ∙ (c.from-in-Some.ensures.number ∙ (ap (λ g. g.from c.args.at.0) here ∙ e)))) in
-    subst (λ (q : Reference). IsReference (rotation_of o) c.args.start.0 r.stack (to (rotation_of o) f) q.left.0 q.right.0) (sym c.at.ensures)
+    subst (λ (q : Reference). IsReference (rotations_of o) c.args.start.0 r.stack (to (rotations_of o) f) q.left.0 q.right.0) (sym c.at.ensures)
     (top_reference o c.args.start.0 f x r h c.in-Some.top.0 c.in-Some.ensures.some.0 c.in-Some.ensures.some.1 at)
 
 pub returns : goal.returns
@@ -31,8 +31,8 @@ returns c o f h e =
     let x = c.args.graph.now in
     let r = c.args.route.now in
     let here = rotation_here o c.args.start.0 f x r h in
-    let at : origin_of x c.args.at.0 ≡ to (rotation_of o) f = ap (λ g. g.from c.args.at.0) here ∙ e in
-    let apart : (s : ℕ) (rest : List ℕ) → r.stack ≡ s ∷ rest → origin_of o s ≢ to (rotation_of o) f =
+    let at : origin_of x c.args.at.0 ≡ to (rotations_of o) f = ap (λ g. g.from c.args.at.0) here ∙ e in
+    let apart : (s : ℕ) (rest : List ℕ) → r.stack ≡ s ∷ rest → origin_of o s ≢ to (rotations_of o) f =
     λ s rest top q. elim c.match-top.branch [
       | in-Some+else-eq w ↦
           let is : s ≡ w.in-Some.top.0 = let a = w.in-Some.ensures.some.1 in cc in
@@ -40,4 +40,4 @@ returns c o f h e =
           eqb-false w.from.result.0 w.from-in-Some.result.0 (sym w.eq.ensures ∙ w.if-eq.false) (w.from.ensures.number ∙ (leaves ∙ (q ∙ (sym at ∙ sym w.from-in-Some.ensures.number))))
       | in_default w ↦ let a : r.stack ≡ [] = w.in_default.ensures.none in cc
     ] in
-    corner_reference o c.args.start.0 f x r h (subst (HasUnburnt (rotation_of x) (burnt_in x)) at c.requires.free) apart c.ccw.result.0 c.ccw.ensures.number
+    corner_reference o c.args.start.0 f x r h (subst (HasUnburnt (rotations_of x) (burnt_in x)) at c.requires.free) apart c.ccw.result.0 c.ccw.ensures.number

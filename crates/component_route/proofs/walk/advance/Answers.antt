@@ -1,6 +1,6 @@
 use Rattle.std.proofs.Common.{sym, subst, refl, ℕ, List}
-use Rattle.half_edges.specs.Rotation.{IsRotation}
-use Rattle.half_edges.specs.Graph.{Graph, rotation_of, origin_of}
+use Rattle.rotation_systems.specs.RotationSystem.{IsRotationSystem}
+use Rattle.half_edges.specs.Graph.{Graph, rotations_of, origin_of}
 use Rattle.half_edges.specs.Burns.{IsBurnt}
 use Rattle.cover_walks.specs.Choices.{IsChosen, IsReference}
 use Rattle.component_route.specs.States.{WalkHead}
@@ -11,7 +11,7 @@ use Rattle.component_route.proofs.walk.advance.Goals.{After-choose-chosen}
 pub choose-chosen-requires-clause-rotation : goal.choose-chosen-requires-clause-rotation
 choose-chosen-requires-clause-rotation c =
     let (o, start, v, base, h, f) = c.requires.known in
-    subst IsRotation (sym (same_rotation o start c.args.avoid v (origin_of o c.args.reference.left.0) base c.args.graph.now c.args.route.now h)) h.fresh.rotation
+    subst IsRotationSystem (sym (same_rotation o start c.args.avoid v (origin_of o c.args.reference.left.0) base c.args.graph.now c.args.route.now h)) h.fresh.rotation
 
 pub choose-chosen-requires-clause-known : goal.choose-chosen-requires-clause-known
 choose-chosen-requires-clause-known c =
@@ -23,8 +23,8 @@ choose-chosen-requires-clause-known c =
 
 -- what was chosen
 chosen : (c : After-choose-chosen) (o : Graph) (start v : ℕ) (base : List ℕ) → WalkHead o start c.args.avoid v (origin_of o c.args.reference.left.0) base c.args.graph.now c.args.route.now →
-    IsReference (rotation_of o) start c.args.route.now.stack (origin_of o c.args.reference.left.0) c.args.reference.left.0 c.args.reference.right.0 →
-    IsChosen (rotation_of c.args.graph.now) start (origin_of o c.args.reference.left.0) c.args.route.now.done c.args.route.now.stack c.choose-chosen.result.0
+    IsReference (rotations_of o) start c.args.route.now.stack (origin_of o c.args.reference.left.0) c.args.reference.left.0 c.args.reference.right.0 →
+    IsChosen (rotations_of c.args.graph.now) start (origin_of o c.args.reference.left.0) c.args.route.now.done c.args.route.now.stack c.choose-chosen.result.0
 chosen c o start v base h f =
     let z = origin_of o c.args.reference.left.0 in
     let r = c.args.route.now in

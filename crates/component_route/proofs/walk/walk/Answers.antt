@@ -1,6 +1,6 @@
 use Rattle.std.proofs.Common.{arith, ◌≡◌, ◌∷◌, [], sym, ap, subst, ◌<◌, length, ℕ, List, refl}
-use Rattle.half_edges.specs.Rotation.{IsRotation}
-use Rattle.half_edges.specs.Graph.{Graph, rotation_of, origin_of}
+use Rattle.rotation_systems.specs.RotationSystem.{IsRotationSystem}
+use Rattle.half_edges.specs.Graph.{Graph, rotations_of, origin_of}
 use Rattle.cover_walks.specs.Choices.{IsReference}
 use Rattle.component_route.specs.declared.choice.Reference.{Reference}
 use Rattle.component_route.specs.States.{WalkHead}
@@ -12,19 +12,19 @@ pub is_exhausted-requires-clause-rotation : goal.is_exhausted-requires-clause-ro
 is_exhausted-requires-clause-rotation c =
     let (o, start, v, base, h, f) = c.requires.known in
     let k = c.steps.invariant.head o start v base h f in
-    subst IsRotation (sym (same_rotation o start c.args.avoid v (origin_of o c.steps.side.0) base c.steps.graph c.steps.route k)) k.fresh.rotation
+    subst IsRotationSystem (sym (same_rotation o start c.args.avoid v (origin_of o c.steps.side.0) base c.steps.graph c.steps.route k)) k.fresh.rotation
 
 -- what stands before a step
 before : (c : After-at) (o : Graph) (start v : ℕ) (base : List ℕ) → WalkHead o start c.args.avoid v (origin_of o c.args.reference.left.0) base c.args.graph.now c.args.route.now →
-    IsReference (rotation_of o) start c.args.route.now.stack (origin_of o c.args.reference.left.0) c.args.reference.left.0 c.args.reference.right.0 →
+    IsReference (rotations_of o) start c.args.route.now.stack (origin_of o c.args.reference.left.0) c.args.reference.left.0 c.args.reference.right.0 →
     WalkHead o start c.args.avoid v (origin_of o c.at.result.left.0) base c.steps.graph c.steps.route
-    × IsReference (rotation_of o) start c.steps.route.stack (origin_of o c.at.result.left.0) c.at.result.left.0 c.at.result.right.0
+    × IsReference (rotations_of o) start c.steps.route.stack (origin_of o c.at.result.left.0) c.at.result.left.0 c.at.result.right.0
 before c o start v base h f =
     let k = c.steps.invariant.head o start v base h f in
-    let within : c.steps.side.0 < (rotation_of o).sides = subst (λ q. c.steps.side.0 < q.sides) (same_rotation o start c.args.avoid v (origin_of o c.steps.side.0) base c.steps.graph c.steps.route k) c.steps.invariant.within in
-    subst (λ (q : Reference). WalkHead o start c.args.avoid v (origin_of o q.left.0) base c.steps.graph c.steps.route × IsReference (rotation_of o) start c.steps.route.stack (origin_of o q.left.0) q.left.0 q.right.0)
+    let within : c.steps.side.0 < (rotations_of o).sides = subst (λ q. c.steps.side.0 < q.sides) (same_rotation o start c.args.avoid v (origin_of o c.steps.side.0) base c.steps.graph c.steps.route k) c.steps.invariant.within in
+    subst (λ (q : Reference). WalkHead o start c.args.avoid v (origin_of o q.left.0) base c.steps.graph c.steps.route × IsReference (rotations_of o) start c.steps.route.stack (origin_of o q.left.0) q.left.0 q.right.0)
     (sym c.at.ensures)
-    (k, next_reference (rotation_of o) start c.steps.side.0 c.steps.invariant.top.0 c.steps.route.stack within c.steps.invariant.top.1)
+    (k, next_reference (rotations_of o) start c.steps.side.0 c.steps.invariant.top.0 c.steps.route.stack within c.steps.invariant.top.1)
 
 pub advance-side-requires-in-steps-clause-known : goal.advance-side-requires-in-steps-clause-known
 advance-side-requires-in-steps-clause-known c =

@@ -1,6 +1,7 @@
 use Rattle.std.proofs.Common.{[], ◌∷◌, sym, ◌∙◌}
 use Rattle.std.proofs.lemmas.List.{map-append}
-use Rattle.half_edges.proofs.Items.{Contains-from_read}
+use Rattle.nest_base.specs.Range.{widest}
+use Rattle.nest_base.proofs.ListReads.{Contains-from_read}
 use Rattle.face_nesting.specs.Numbering.{number_seen, sight_numbers_of}
 use Rattle.face_nesting.specs.Sights.{IsSight}
 use Rattle.face_nesting.proofs.Prefixes.{AllZip-one_more}
@@ -8,17 +9,17 @@ use Rattle.face_nesting.proofs.SeenSoFar.{sight_found, vertex_within}
 use Rattle.face_nesting.proofs.sights.sights_of.Goals as goal
 
 pub seen_from-requires-clause-few : goal.seen_from-requires-clause-few
-seen_from-requires-clause-few c = rw c.requires.edges c.requires.plane_graph.few
+seen_from-requires-clause-few c = rw c.requires.edges c.component_count-c-end.ensures.plane_graph.few
 
 pub seen_from-requires-clause-edges_within : goal.seen_from-requires-clause-edges_within
-seen_from-requires-clause-edges_within c = rw c.requires.edges c.requires.plane_graph.within
+seen_from-requires-clause-edges_within c = rw c.requires.edges c.component_count-c-end.ensures.plane_graph.within
 
 pub seen_from-requires-clause-p_within : goal.seen_from-requires-clause-p_within
 seen_from-requires-clause-p_within c =
     let graph = c.args.graph.now in
     let at = sym c.mark_vertex.ensures.mark ∙ c.place-mark.ensures in
-    let mark = (c.requires.plane_graph.are_marks.are_all c.place-mark.result).0 (Contains-from_read graph.marks c.loop-c.c c.place-mark.result at) in
-    vertex_within 2000000000 graph.edges c.place-mark.result c.requires.plane_graph.within mark.vertex
+    let mark = (c.component_count-c-end.ensures.plane_graph.are_marks.are_all c.place-mark.result).0 (Contains-from_read graph.marks c.loop-c.c c.place-mark.result at) in
+    vertex_within widest graph.edges c.place-mark.result c.component_count-c-end.ensures.plane_graph.within mark.vertex
 
 pub loop-c-preserved : goal.loop-c-preserved
 loop-c-preserved c =

@@ -1,5 +1,5 @@
 use Rattle.std.proofs.Common.{◌≡◌, ◌*◌, length}
-use Rattle.half_edges.proofs.RingNumbers.{AreNumbered}
+use Rattle.half_edges.proofs.RotationNumbers.{AreNumbered}
 use Rattle.half_edges.proofs.layout.layout_of.Given as goal
 
 abbrev pub invariant-loop-v : goal.invariant-loop-v

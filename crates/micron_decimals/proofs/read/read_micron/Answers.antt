@@ -2,6 +2,7 @@ use Rattle.std.proofs.Common.{arith, rules, ◌≡◌, ◌<◌, ◌≤◌, ℤ, 
 use Rattle.std.specs.Prelude.{unsigned_abs}
 use Rattle.std.specs.Int.{w64, w128}
 use Rattle.std.proofs.lemmas.Int.{ints, to_z-of_z}
+use Rattle.nest_base.specs.Range.{widest}
 use Rattle.micron_decimals.specs.Decimals.{micron_of, IsMicron}
 use Rattle.micron_decimals.proofs.Readings.{read_below_far, read_size}
 use Rattle.micron_decimals.proofs.Nearest.{micron_is_nearest}
@@ -9,10 +10,10 @@ use Rattle.micron_decimals.proofs.Microns.{no_decimal, some_decimal, not_beyond,
 use Rattle.micron_decimals.proofs.read.read_micron.Goals as goal
 use Rattle.micron_decimals.proofs.read.read_micron.Goals.{After-from, Else-unsigned_abs-from, Then-unsigned_abs-from}
 
-limit_size : (limit : ℤ) → pos 0 ≤ℤ limit → limit ≤ℤ pos 2000000000 → unsigned_abs limit ≤ 2000000000
+limit_size : (limit : ℤ) → pos 0 ≤ℤ limit → limit ≤ℤ pos widest → unsigned_abs limit ≤ widest
 limit_size limit low high = omega (arith, ints, low, high)
 
-small : (c : After-from) → unsigned_abs c.args.limit ≤ 2000000000
+small : (c : After-from) → unsigned_abs c.args.limit ≤ widest
 small c = limit_size c.args.limit c.requires.low c.requires.high
 
 -- the sizes that are compared

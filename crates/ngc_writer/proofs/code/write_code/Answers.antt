@@ -1,8 +1,8 @@
 use Rattle.std.proofs.Common.{arith, length}
 use Rattle.std.proofs.lemmas.Option.{slice_get-get_or}
 use Rattle.half_edges.specs.Numbers.{half_edges_of}
-use Rattle.face_nesting.specs.Numbering.{numbers_of}
-use Rattle.cover_plan.specs.Trails.{half_of}
+use Rattle.nest_base.specs.NumberLists.{side_numbers}
+use Rattle.cover_plan.specs.Trails.{half_edge_of}
 use Rattle.code_moves.specs.CodeText.{head_text}
 use Rattle.ngc_writer.proofs.Routes.{next_chain, chain_within}
 use Rattle.ngc_writer.proofs.code.write_code.Goals as goal
@@ -13,5 +13,5 @@ write_chain-requires-clause-within c =
 
 pub loop-i-preserved : goal.loop-i-preserved
 loop-i-preserved c =
-    next_chain (half_of c.args.graph.now) c.args.leads.now c.args.plan.now c.loop-i.i _ (numbers_of c.chain.result.now) head_text c.loop-i.code c.write_chain.new.out
+    next_chain (half_edge_of c.args.graph.now) c.args.leads.now c.args.plan.now c.loop-i.i _ (side_numbers c.chain.result.now) head_text c.loop-i.code c.write_chain.new.out
     (slice_get-get_or c.args.leads.now c.loop-i.i _ (omega (arith, c.loop-i-test.true))) c.chain.ensures.chain c.loop-i.invariant c.in_ok-write_chain.ensures

@@ -7,19 +7,19 @@ use Rattle.nest_base.specs.declared.numbers.Component.{Component}
 use Rattle.plate_nesting.specs.Order.{ParentsComeFirst, IsBurningOrder}
 use Rattle.plate_plans.specs.Plans.{IsPlan}
 use Rattle.plate_plans.proofs.Places.{parents_come_first}
-use Rattle.burning_order.specs.NumbersOf.{numbers_of}
-use Rattle.burning_order.proofs.Orders.{each_is_burnt_once, each_is_within}
+use Rattle.nest_base.specs.NumberLists.{component_numbers}
+use Rattle.plate_nesting.proofs.OneOrder.{each_is_burnt_once, each_is_within}
 use Rattle.half_edges.specs.Graph.{Graph}
 use Rattle.half_edges.proofs.GraphSizes.{length-vertices-le, length-marks-le}
-use Rattle.half_edges.proofs.Items.{All-read, read-map}
+use Rattle.nest_base.proofs.ListReads.{All-read, read-map}
 use Rattle.half_edges.specs.Numbers.{half_edges_of}
-use Rattle.face_nesting.specs.Nesting.{ring_at}
+use Rattle.face_nesting.specs.Nesting.{cycle_at}
 use Rattle.oe_cover.specs.Planning.{HasPlanned, planned}
 use Rattle.oe_cover.specs.Trails.{trails_by}
 use Rattle.oe_cover.proofs.Pieces.{pieces_hold}
 use Rattle.oe_cover.proofs.FirstEnds.{first_before}
 use Rattle.oe_cover.proofs.ComponentStarts.{HasStart, lawful_before}
-use Rattle.oe_cover.proofs.PlannedShares.{not_burnt_yet, one_more, all_are_plan, all_are_burnt}
+use Rattle.oe_cover.proofs.PlannedCovers.{not_burnt_yet, one_more, all_are_plan, all_are_burnt}
 use Rattle.oe_cover.proofs.all.cover_all.Goals as goal
 use Rattle.oe_cover.proofs.all.cover_all.Goals.{After-deref-c-items, After-first_start-start, After-finish}
 
@@ -50,18 +50,18 @@ burning_order-requires-clause-first c =
     subst ParentsComeFirst (sym c.parents.ensures) (parents_come_first graph.edges graph.marks c.args.faces.now.parents c.requires.parents)
 
 -- the order in which the loop goes
-burns : (c : After-deref-c-items) → IsBurningOrder c.args.faces.now.parents (numbers_of c.deref-c-items.result.now)
-burns c = subst₂ IsBurningOrder c.parents.ensures (ap numbers_of (sym c.deref-c-items.ensures.value)) c.in_ok-order.ensures
+burns : (c : After-deref-c-items) → IsBurningOrder c.args.faces.now.parents (component_numbers c.deref-c-items.result.now)
+burns c = subst₂ IsBurningOrder c.parents.ensures (ap component_numbers (sym c.deref-c-items.ensures.value)) c.in_ok-order.ensures
 
 -- the component at a place of it
-at_turn : (order : List Component) (i : ℕ) → i < length order → slice_get (numbers_of order) i ≡ Some (get_or order i (record { 0 = 0 })).0
+at_turn : (order : List Component) (i : ℕ) → i < length order → slice_get (component_numbers order) i ≡ Some (get_or order i (record { 0 = 0 })).0
 at_turn order i within = read-map component_number order i (get_or order i (record { 0 = 0 })) (slice_get-get_or order i (record { 0 = 0 }) within)
 
 -- is one of the graph
-turn_within : (order : List Component) (parents : List (Option ℕ)) (components i : ℕ) → IsBurningOrder parents (numbers_of order) → length parents ≡ components →
+turn_within : (order : List Component) (parents : List (Option ℕ)) (components i : ℕ) → IsBurningOrder parents (component_numbers order) → length parents ≡ components →
     i < length order → (get_or order i (record { 0 = 0 })).0 < components
 turn_within order parents components i is as_many within =
-    let below = All-read (λ n. n < length parents) (numbers_of order) i (get_or order i (record { 0 = 0 })).0 (each_is_within parents (numbers_of order) is) (at_turn order i within) in
+    let below = All-read (λ n. n < length parents) (component_numbers order) i (get_or order i (record { 0 = 0 })).0 (each_is_within parents (component_numbers order) is) (at_turn order i within) in
     omega (arith, below, as_many)
 
 pub first_start-start-requires-clause-within : goal.first_start-start-requires-clause-within
@@ -71,25 +71,25 @@ first_start-start-requires-clause-within c =
     omega (arith, below, ap (λ (x : Graph). length x.marks) c.loop-c.invariant.planning.graph)
 
 -- its cover may start where it starts
-begins : (c : After-first_start-start) → IsBurningOrder c.args.faces.now.parents (numbers_of c.deref-c-items.result.now) →
+begins : (c : After-first_start-start) → IsBurningOrder c.args.faces.now.parents (component_numbers c.deref-c-items.result.now) →
     HasStart c.args.graph.now c.args.faces.now (get_or c.deref-c-items.result.now c.loop-c.c-index (record { 0 = 0 })).0 c.first_start-start.result.0
 begins c is =
     let planning = c.loop-c.invariant.planning in
     let turn = get_or c.deref-c-items.result.now c.loop-c.c-index (record { 0 = 0 }) in
     record {
       plane = planning.plane;
-      rings = c.requires.rings;
+      cycles = c.requires.cycles;
       within = turn_within c.deref-c-items.result.now c.args.faces.now.parents (length c.args.graph.now.marks) c.loop-c.c-index is c.requires.parents.as_many c.loop-c-test.true;
-      lawful = lawful_before c.args.graph.now c.loop-c.graph (ring_at c.args.faces.now turn.0) c.first_start-start.result.0 planning.graph c.first_start-start.ensures.lawful;
+      lawful = lawful_before c.args.graph.now c.loop-c.graph (cycle_at c.args.faces.now turn.0) c.first_start-start.result.0 planning.graph c.first_start-start.ensures.lawful;
     }
 
 pub cover-requires-clause-unburnt : goal.cover-requires-clause-unburnt
 cover-requires-clause-unburnt c =
     let order = c.deref-c-items.result.now in
     let at = goal.at.cover-requires-clause-unburnt c in
-    not_burnt_yet (numbers_of order) c.loop-c.c-index (get_or order c.loop-c.c-index (record { 0 = 0 })).0 c.first_start-start.result.0 (at_turn order c.loop-c.c-index c.loop-c-test.true)
+    not_burnt_yet (component_numbers order) c.loop-c.c-index (get_or order c.loop-c.c-index (record { 0 = 0 })).0 c.first_start-start.result.0 (at_turn order c.loop-c.c-index c.loop-c-test.true)
     (begins at.After-first_start-start (burns at.After-deref-c-items)) c.loop-c.graph c.loop-c.planner c.loop-c.invariant.planning c.loop-c.invariant.planned c.requires.unburnt
-    (each_is_burnt_once c.args.faces.now.parents (numbers_of order) (burns at.After-deref-c-items))
+    (each_is_burnt_once c.args.faces.now.parents (component_numbers order) (burns at.After-deref-c-items))
 
 pub loop-c-preserved : goal.loop-c-preserved
 loop-c-preserved c =
@@ -97,19 +97,19 @@ loop-c-preserved c =
     let at = goal.at.loop-c-preserved c in
     record {
       planning = c.cover.ensures.ready c.args.graph.now c.loop-c.invariant.planning;
-      planned = one_more (numbers_of order) c.loop-c.c-index (get_or order c.loop-c.c-index (record { 0 = 0 })).0 c.first_start-start.result.0 (at_turn order c.loop-c.c-index c.loop-c-test.true)
+      planned = one_more (component_numbers order) c.loop-c.c-index (get_or order c.loop-c.c-index (record { 0 = 0 })).0 c.first_start-start.result.0 (at_turn order c.loop-c.c-index c.loop-c-test.true)
           (begins at.After-first_start-start (burns at.After-deref-c-items))
-          (first_before c.args.graph.now c.loop-c.graph (ring_at c.args.faces.now (get_or order c.loop-c.c-index (record { 0 = 0 })).0) c.first_start-start.result.0 c.loop-c.invariant.planning.graph c.first_start-start.ensures.first)
+          (first_before c.args.graph.now c.loop-c.graph (cycle_at c.args.faces.now (get_or order c.loop-c.c-index (record { 0 = 0 })).0) c.first_start-start.result.0 c.loop-c.invariant.planning.graph c.first_start-start.ensures.first)
           c.loop-c.planner c.cover.new.self c.loop-c.invariant.planned
           (c.cover.ensures.covered c.args.graph.now c.loop-c.invariant.planning);
     }
 
 -- in the end all components are planned
-all_planned : (c : After-finish) → HasPlanned c.args.graph.now (numbers_of c.deref-c-items.result.now) c.loop-c.planner
+all_planned : (c : After-finish) → HasPlanned c.args.graph.now (component_numbers c.deref-c-items.result.now) c.loop-c.planner
 all_planned c =
     let order = c.deref-c-items.result.now in
     subst (λ components. HasPlanned c.args.graph.now components c.loop-c.planner)
-    (take_all c.loop-c.c-index (numbers_of order) (omega (arith, c.loop-c-test.false, length-map order component_number))) c.loop-c.invariant.planned
+    (take_all c.loop-c.c-index (component_numbers order) (omega (arith, c.loop-c-test.false, length-map order component_number))) c.loop-c.invariant.planned
 
 pub returns-clause-plan : goal.returns-clause-plan
 returns-clause-plan c =
@@ -127,7 +127,7 @@ pub returns-clause-in_order : goal.returns-clause-in_order
 returns-clause-in_order c =
     let at = goal.at.returns-clause-in_order c in
     let is = all_planned at.After-finish in
-    (numbers_of c.deref-c-items.result.now, burns at.After-deref-c-items, is.shares, is.are_shares, is.ends, ap (trails_by c.args.graph.now.edges) c.finish.ensures ∙ is.trails)
+    (component_numbers c.deref-c-items.result.now, burns at.After-deref-c-items, is.component_covers, is.are_component_covers, is.ends, ap (trails_by c.args.graph.now.edges) c.finish.ensures ∙ is.trails)
 
 pub returns-clause-burnt : goal.returns-clause-burnt
 returns-clause-burnt c s below =

@@ -1,6 +1,6 @@
 use Rattle.std.proofs.Common.{length, ◌-◌, ◌≡◌, ◌<◌, ◌+◌, drop}
-use Rattle.half_edges.specs.Graph.{rotation_of}
-use Rattle.face_nesting.specs.Numbering.{numbers_of}
+use Rattle.half_edges.specs.Graph.{rotations_of}
+use Rattle.nest_base.specs.NumberLists.{side_numbers}
 use Rattle.oe_cover.specs.ChainEnds.{chain_length}
 use Rattle.oe_cover.proofs.draft.chain_end.Given as goal
 
@@ -8,7 +8,7 @@ use Rattle.oe_cover.proofs.draft.chain_end.Given as goal
 abbrev pub invariant-loop-last : goal.invariant-loop-last
 invariant-loop-last l =
     (l.last < length l.order)
-    × (l.fn.first + chain_length (rotation_of l.graph) (drop l.fn.first (numbers_of l.order)) ≡ l.last + chain_length (rotation_of l.graph) (drop l.last (numbers_of l.order)))
+    × (l.fn.first + chain_length (rotations_of l.graph) (drop l.fn.first (side_numbers l.order)) ≡ l.last + chain_length (rotations_of l.graph) (drop l.last (side_numbers l.order)))
 
 abbrev pub decreases-loop-last : goal.decreases-loop-last
 decreases-loop-last l = length l.order - l.last

@@ -3,7 +3,7 @@ use Rattle.std.specs.Prelude.{IfSome, Option, Some}
 use Rattle.std.proofs.lemmas.List.{take_more, take_all, map_push}
 use Rattle.half_edges.specs.Numbers.{half_edges_of}
 use Rattle.nest_base.specs.declared.numbers.Side.{Side}
-use Rattle.face_nesting.specs.Numbering.{numbers_of}
+use Rattle.nest_base.specs.NumberLists.{side_numbers}
 use Rattle.face_nesting.proofs.NumbersOf.{side_number}
 use Rattle.oe_cover.specs.Starts.{FirstOddIs}
 use Rattle.oe_cover.proofs.FirstOdds.{becomes_first, even_is_passed, later_is_passed}
@@ -16,12 +16,12 @@ loop-s-preserved c =
     let sides = c.args.sides.now in
     let i = c.loop-s.s-index in
     let s : Side = get_or sides i (record { 0 = 0 }) in
-    let before = numbers_of (take i sides) in
-    let more : before ++ s.0 ∷ [] ≡ numbers_of (take (i + 1) sides) = sym (ap numbers_of (take_more sides i (record { 0 = 0 }) c.loop-s-test.true) ∙ map_push side_number (take i sides) s) in
+    let before = side_numbers (take i sides) in
+    let more : before ++ s.0 ∷ [] ≡ side_numbers (take (i + 1) sides) = sym (ap side_numbers (take_more sides i (record { 0 = 0 }) c.loop-s-test.true) ∙ map_push side_number (take i sides) s) in
     let within = λ (first : Option Side) (was : IfSome first (λ t. t.0 < length (half_edges_of graph.edges))) (is : c.if-leaves_odd.first ≡ first).
     subst (λ o. IfSome o (λ t. t.0 < length (half_edges_of graph.edges))) (sym is) was in
     let told = λ (first : Option Side) (was : FirstOddIs graph (before ++ s.0 ∷ []) first) (is : c.if-leaves_odd.first ≡ first).
-    subst (λ o. FirstOddIs graph (numbers_of (take (i + 1) sides)) o) (sym is) (subst (λ xs. FirstOddIs graph xs first) more was) in
+    subst (λ o. FirstOddIs graph (side_numbers (take (i + 1) sides)) o) (sym is) (subst (λ xs. FirstOddIs graph xs first) more was) in
     elim c.if-leaves_odd.branch [
       | then-leaves_odd+then-comes_before w ↦ record {
         first = told (Some s) (becomes_first graph before s c.loop-s.first c.loop-s.invariant.first (c.leaves_odd.ensures.0 w.if-leaves_odd.true) w.comes_before.result w.comes_before.ensures.some w.if-comes_before.true) w.first-is;
@@ -40,4 +40,4 @@ loop-s-preserved c =
     ]
 
 pub returns : goal.returns
-returns c = subst (λ xs. FirstOddIs c.args.graph.now (numbers_of xs) c.loop-s.first) (take_all c.loop-s.s-index c.args.sides.now (omega (arith, c.loop-s-test.false))) c.loop-s.invariant.first
+returns c = subst (λ xs. FirstOddIs c.args.graph.now (side_numbers xs) c.loop-s.first) (take_all c.loop-s.s-index c.args.sides.now (omega (arith, c.loop-s-test.false))) c.loop-s.invariant.first

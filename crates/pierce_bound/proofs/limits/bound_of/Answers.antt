@@ -1,5 +1,5 @@
 use Rattle.std.proofs.Common.{arith, subst}
-use Rattle.pierce_bound.specs.Counts.{HasOddCount}
+use Rattle.plate_sides.specs.OddCounts.{HasOddCount}
 use Rattle.pierce_bound.proofs.FromCounts.{bound_none, bound_some}
 use Rattle.pierce_bound.proofs.limits.bound_of.Goals as goal
 

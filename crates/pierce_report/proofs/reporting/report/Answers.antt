@@ -1,15 +1,20 @@
-use Rattle.std.proofs.Common.{◌≡◌, ℕ, List, [], ◌∷◌, ◌++◌, append_assoc, length, sym, ap, ◌∙◌, codes, decimal}
+use Rattle.std.proofs.Common.{◌≡◌, ℕ, Bool, true, false, List, [], ◌∷◌, ◌++◌, append_assoc, length, refl, sym, ap, ◌∙◌, codes, decimal}
 use Rattle.std.specs.Prelude.{sum, ◌==◌, if◌then◌else◌}
-use Rattle.plate_covers.specs.Cover.{HasTrailsIn}
+use Rattle.plate_sides.specs.Cover.{HasTrailsIn}
 use Rattle.oe_cover.specs.Trails.{trails_by}
 use Rattle.pierce_report.specs.Report.{IsRowOf, rows_text, total_pierces, total_bound}
-use Rattle.pierce_report.specs.Rows.{rows_of, totals_text}
+use Rattle.pierce_report.specs.Rows.{rows_of, totals_text, verdict_text}
 use Rattle.pierce_report.proofs.RowLists.{length_zip, pierces_are, with_pierces}
 use Rattle.pierce_report.proofs.reporting.report.Goals as goal
 
 -- the last lines stand behind the others
-regrouped : (lines a p b q v : List ℕ) → lines ++ (a ++ p ++ b ++ q ++ 10 ∷ [] ++ v ++ 10 ∷ []) ≡ lines ++ a ++ p ++ b ++ q ++ 10 ∷ [] ++ v ++ 10 ∷ []
+regrouped : (lines a p b q v : List ℕ) → (lines ++ (a ++ p ++ b ++ q ++ 10 ∷ [])) ++ (v ++ 10 ∷ []) ≡ lines ++ a ++ p ++ b ++ q ++ 10 ∷ [] ++ v ++ 10 ∷ []
 regrouped lines a p b q v = simp append_assoc
+
+-- the last line, as the report has it
+verdict_is : (is_fewest : Bool) → verdict_text is_fewest ≡ (if is_fewest then codes "fewest" else codes "not shown fewest") ++ 10 ∷ []
+verdict_is true = refl
+verdict_is false = refl
 
 pub all_numbers-requires-clause-as_many : goal.all_numbers-requires-clause-as_many
 all_numbers-requires-clause-as_many c =
@@ -24,8 +29,8 @@ returns c =
     let counts = c.in_ok-pierces.pierces.items in
     let rows = rows_of numbers in
     let same = c.in_ok-rows.ensures.pierces ∙ c.deref.ensures.value in
-    let pierces : c.len.result ≡ total_pierces rows = c.len.ensures ∙ sym c.in_ok-pierces.ensures.all ∙ ap sum (sym (pierces_are numbers ∙ same)) in
-    let bound : c.total_bound.result ≡ total_bound rows = c.total_bound.ensures ∙ ap (λ l. total_bound (rows_of l)) c.deref-3.ensures.value in
+    let pierces : c.len-total.result ≡ total_pierces rows = c.len-total.ensures ∙ sym c.in_ok-pierces.ensures.all ∙ ap sum (sym (pierces_are numbers ∙ same)) in
+    let bound : c.total_bound-bound.result ≡ total_bound rows = c.total_bound-bound.ensures ∙ ap (λ l. total_bound (rows_of l)) c.deref-3.ensures.value in
     let lines : c.put_rows.new.out ≡ rows_text 1 rows =
     c.in_ok-put_rows.ensures ∙ ap (λ t. t ++ rows_text 1 (rows_of c.deref-2.result.now)) c.new-text.ensures ∙ ap (λ l. rows_text 1 (rows_of l)) c.deref-2.ensures.value in
     record {
@@ -33,8 +38,11 @@ returns c =
       are_marks = c.graph_is_plane.ensures.are_marks;
       rows = rows;
       are_rows = with_pierces (IsRowOf graph.edges) (λ mark n. HasTrailsIn graph.edges mark (trails_by graph.edges plan) n) graph.marks numbers counts c.in_ok-rows.ensures.rows c.in_ok-pierces.ensures.each same;
-      is_text = c.in_ok-put_totals.ensures ∙ ap (λ l. l ++ totals_text c.len.result c.total_bound.result) lines ∙
-          ap (λ n. rows_text 1 rows ++ totals_text n c.total_bound.result) pierces ∙ ap (λ n. rows_text 1 rows ++ totals_text (total_pierces rows) n) bound ∙
+      is_text = c.in_ok-put_verdict.ensures ∙ ap (λ t. t ++ verdict_text (c.len-total.result == c.total_bound-bound.result)) c.in_ok-put_totals.ensures ∙
+          ap (λ l. (l ++ totals_text c.len-total.result c.total_bound-bound.result) ++ verdict_text (c.len-total.result == c.total_bound-bound.result)) lines ∙
+          ap (λ n. (rows_text 1 rows ++ totals_text n c.total_bound-bound.result) ++ verdict_text (n == c.total_bound-bound.result)) pierces ∙
+          ap (λ n. (rows_text 1 rows ++ totals_text (total_pierces rows) n) ++ verdict_text (total_pierces rows == n)) bound ∙
+          ap (λ v. (rows_text 1 rows ++ totals_text (total_pierces rows) (total_bound rows)) ++ v) (verdict_is (total_pierces rows == total_bound rows)) ∙
           regrouped (rows_text 1 rows) (codes "total pierces ") (decimal (total_pierces rows)) (codes " bound ") (decimal (total_bound rows))
           (if total_pierces rows == total_bound rows then codes "fewest" else codes "not shown fewest");
     }

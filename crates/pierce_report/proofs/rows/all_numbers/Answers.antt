@@ -2,9 +2,9 @@
 use Rattle.std.proofs.Common.{arith, ◌<◌, ℕ, [], ◌∷◌, ◌++◌, length, take, refl, sym, ap, ◌∙◌}
 use Rattle.std.proofs.lemmas.List.{map_push, take_more}
 use Rattle.std.proofs.lemmas.Option.{slice_get_read}
-use Rattle.half_edges.proofs.Items.{read_below}
+use Rattle.nest_base.proofs.ListReads.{read_below}
 use Rattle.face_nesting.proofs.Prefixes.{AllZip-one_more}
-use Rattle.pierce_bound.specs.Counts.{HasOddCount}
+use Rattle.plate_sides.specs.OddCounts.{HasOddCount}
 use Rattle.pierce_report.specs.declared.rows.Numbers.{Numbers}
 use Rattle.pierce_report.specs.Report.{IsRowOf}
 use Rattle.pierce_report.specs.Rows.{HasEdgeCount, row_of}

@@ -1,4 +1,4 @@
-use Rattle.half_edges.proofs.Items.{read-map}
+use Rattle.nest_base.proofs.ListReads.{read-map}
 use Rattle.std.proofs.lemmas.Option.{slice_get-get_or}
 use Rattle.pierce_report.specs.Rows.{row_of, rows_of}
 use Rattle.pierce_report.proofs.RowLines.{next_row}

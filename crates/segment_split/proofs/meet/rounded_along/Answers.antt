@@ -1,8 +1,8 @@
 use Rattle.std.proofs.Common.{arith, ◌≡◌, sym, ◌∙◌, ◌*ℤ◌, ℤ, to_z, of_z, FitsSigned, rules, w64}
 use Rattle.std.specs.Int.{w128, int_div_euclid}
 use Rattle.std.proofs.lemmas.Int.{ints, to_z-of_z}
-use Rattle.nest_base.specs.Range.{IsNear}
-use Rattle.segment_split.specs.Meetings.{along, IsPart}
+use Rattle.nest_base.specs.Range.{IsNear, widest}
+use Rattle.segment_split.specs.Meetings.{numerator_along, IsPart}
 use Rattle.segment_split.proofs.Floors.{IsQuotient, quotient}
 use Rattle.segment_split.proofs.Bits.{product-fits, near_read, near_cast, same_bits}
 use Rattle.segment_split.proofs.meet.rounded_along.Goals as goal
@@ -11,8 +11,8 @@ whole_read : (part whole : ℤ) → IsPart part whole → to_z w128 (of_z w128 w
 whole_read part whole fraction = omega (arith, ints, fraction.positive, fraction.small)
 
 -- the quotient, from what the calls say of the bits that they were given
-read : (from to part whole exact down : ℤ) → FitsSigned w64 from → FitsSigned w64 to → FitsSigned w128 exact → IsNear 2000000000 from → IsNear 2000000000 to → IsPart part whole →
-    exact ≡ along (to_z w64 (of_z w64 from)) (to_z w64 (of_z w64 to)) part whole → down ≡ int_div_euclid (to_z w128 (of_z w128 exact)) (to_z w128 (of_z w128 whole)) → IsQuotient (along from to part whole) whole down
+read : (from to part whole exact down : ℤ) → FitsSigned w64 from → FitsSigned w64 to → FitsSigned w128 exact → IsNear widest from → IsNear widest to → IsPart part whole →
+    exact ≡ numerator_along (to_z w64 (of_z w64 from)) (to_z w64 (of_z w64 to)) part whole → down ≡ int_div_euclid (to_z w128 (of_z w128 exact)) (to_z w128 (of_z w128 whole)) → IsQuotient (numerator_along from to part whole) whole down
 read from to part whole exact down from_fits to_fits exact_fits from_near to_near fraction is_exact is_down =
     let exact_is = rw (to_z-of_z w64 from from_fits, to_z-of_z w64 to to_fits) at is_exact in
     let down_is = rw (to_z-of_z w128 exact exact_fits, whole_read part whole fraction, exact_is) at is_down in

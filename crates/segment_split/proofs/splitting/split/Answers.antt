@@ -3,6 +3,7 @@ use Rattle.std.proofs.lemmas.Bool.{iff_false, cases_lt}
 use Rattle.std.proofs.lemmas.List.{take_all}
 use Rattle.std.proofs.lemmas.List.Elements.{Contains-get_or}
 use Rattle.std.proofs.lemmas.Option.{slice_get-get_or}
+use Rattle.nest_base.specs.Limits.{most_segments, most_edges}
 use Rattle.plate_edges.proofs.EdgeEnds.{ends_apart}
 use Rattle.plate_edges.proofs.Keeping.{keep_points}
 use Rattle.plate_edges.proofs.Ranges.{stay_within}
@@ -30,7 +31,7 @@ put-requires-clause-some c =
 pub loop-index-preserved : goal.loop-index-preserved
 loop-index-preserved c =
     let segments = c.segments-segments.result.now in
-    let few : length segments ≤ 20000 = rw c.segments-segments.ensures c.requires.few in
+    let few : length segments ≤ most_segments = rw c.segments-segments.ensures c.requires.few in
     one_more_is_cut segments c.loop-index.index _ c.loop-index.pieces.edges.items c.put.new.self.edges.items c.loop-index.pieces.count c.put.new.self.count c.in-Ok.places.items
     c.loop-index-test.true few c.loop-index.invariant c.in-Ok.ensures.places c.in-Ok.ensures.few c.in-Ok.ensures.none_crosses (rw c.deref.ensures.value at c.in_ok-put.ensures.count)
     (rw c.deref.ensures.value at c.in_ok-put.ensures.edges)
@@ -50,7 +51,7 @@ pub returns-clause-split : goal.returns-clause-split
 returns-clause-split c =
     let segments = c.segments-segments.result.now in
     let cut : AreCut segments segments c.loop-index.pieces.edges.items c.loop-index.pieces.count = rw (take_all c.loop-index.index segments c.loop-index-test.false) at c.loop-index.invariant in
-    let few : c.loop-index.pieces.count ≤ 2000000 = elim (cases_lt 2000000 c.loop-index.pieces.count) [ inl many ↦ absurd (iff_false c.are_too_many.ensures c.if-are_too_many.false many) | inr h ↦ h ] in
+    let few : c.loop-index.pieces.count ≤ most_edges = elim (cases_lt most_edges c.loop-index.pieces.count) [ inl many ↦ absurd (iff_false c.are_too_many.ensures c.if-are_too_many.false many) | inr h ↦ h ] in
     rw (c.from_list.ensures, sym c.segments-segments.ensures) (record {
       on_lattice = none_crosses segments cut.on_lattice;
       pieces = c.loop-index.pieces.count;
@@ -63,7 +64,7 @@ pub returns-clause-most_edges : goal.returns-clause-most_edges
 returns-clause-most_edges c =
     let segments = c.segments-segments.result.now in
     let cut : AreCut segments segments c.loop-index.pieces.edges.items c.loop-index.pieces.count = rw (take_all c.loop-index.index segments c.loop-index-test.false) at c.loop-index.invariant in
-    let few : c.loop-index.pieces.count ≤ 2000000 = elim (cases_lt 2000000 c.loop-index.pieces.count) [ inl many ↦ absurd (iff_false c.are_too_many.ensures c.if-are_too_many.false many) | inr h ↦ h ] in
+    let few : c.loop-index.pieces.count ≤ most_edges = elim (cases_lt most_edges c.loop-index.pieces.count) [ inl many ↦ absurd (iff_false c.are_too_many.ensures c.if-are_too_many.false many) | inr h ↦ h ] in
     rw c.from_list.ensures (omega (arith, cut.as_many few, few, c.in_order.ensures.not_more))
 
 pub returns-clause-ends_in_order : goal.returns-clause-ends_in_order

@@ -13,20 +13,20 @@ returns-in-Some-clause-err c = λ bytes at.
 pub returns-in-Err-clause-err : goal.returns-in-Err-clause-err
 returns-in-Err-clause-err c = λ bytes at.
     let none : fault_of c.args.self.groups.stop ≡ None = search rules in
-    refused_by_entities bytes c.args.self.groups.stop c.args.self.contents.kept c.in-Err.why at.stop none at.contents.kept (search rules)
+    refused_by_entities bytes c.args.self.groups.stop c.args.self.entities.built c.in-Err.why at.stop none at.entities.built (search rules)
 
 pub returns-then-is_empty-clause-err : goal.returns-then-is_empty-clause-err
 returns-then-is_empty-clause-err c = λ bytes at.
     let none : fault_of c.args.self.groups.stop ≡ None = search rules in
-    let kept = c.in-Ok.ensures.ok in
+    let built = c.in-Ok.ensures.ok in
     let empty : length c.segments.result.now ≡ 0 = search rules in
-    let same : length c.segments.result.now ≡ length c.args.self.contents.kept.drawing.segments = ap length c.segments.ensures ∙ ap (λ (l : Lists). length l.segments) kept.0 in
-    refused_as_empty bytes c.args.self.groups.stop c.args.self.contents.kept at.stop none at.contents.kept kept.1 (sym same ∙ empty)
+    let same : length c.segments.result.now ≡ length c.args.self.entities.built.drawing.segments = ap length c.segments.ensures ∙ ap (λ (l : Lists). length l.segments) built.0 in
+    refused_as_empty bytes c.args.self.groups.stop c.args.self.entities.built at.stop none at.entities.built built.1 (sym same ∙ empty)
 
 pub returns-clause-ok : goal.returns-clause-ok
 returns-clause-ok c = λ bytes at.
     let none : fault_of c.args.self.groups.stop ≡ None = search rules in
-    let kept = c.in-Ok.ensures.ok in
+    let built = c.in-Ok.ensures.ok in
     let some_segments : nat_eq (length c.segments.result.now) 0 ≡ false = search rules in
     let some : 0 < length c.in-Ok.drawing.segments = subst (λ n. 0 < n) (ap length c.segments.ensures) (not_empty (length c.segments.result.now) some_segments) in
-    read_whole bytes c.args.self.groups.stop c.args.self.contents.kept c.in-Ok.drawing at.stop none at.contents.kept kept.1 kept.0 some
+    read_whole bytes c.args.self.groups.stop c.args.self.entities.built c.in-Ok.drawing at.stop none at.entities.built built.1 built.0 some

@@ -1,6 +1,6 @@
 use Rattle.std.proofs.Common.{◌≡◌, drop}
 use Rattle.std.specs.Prelude.{filter_map}
-use Rattle.dxf_entities.specs.Hand.{value_in}
+use Rattle.dxf_entities.specs.EntityBuilder.{value_in}
 use Rattle.dxf_entities.specs.Refusals.{first, oddity}
 use Rattle.dxf_entities.proofs.values.Values.first_oddity.Given as goal
 

@@ -1,10 +1,10 @@
 use Rattle.std.proofs.Common.{arith, ◌≡◌, ◌+◌, ◌-◌, length, subst}
 use Rattle.std.proofs.lemmas.List.{get_or_read}
 use Rattle.std.proofs.lemmas.Option.{slice_get_within}
-use Rattle.plate_covers.specs.Odd.{HasDegree}
-use Rattle.half_edges.proofs.Degrees.{degree_of_ring}
+use Rattle.plate_sides.specs.Odd.{HasDegree}
+use Rattle.half_edges.proofs.Degrees.{degree_of_rotation}
 use Rattle.half_edges.proofs.RotationLaws.{counted_at}
-use Rattle.half_edges.proofs.GraphReads.{vertex_at_number, first_within, block_long, ring_of}
+use Rattle.half_edges.proofs.GraphReads.{vertex_at_number, first_within, block_long, rotation_of}
 use Rattle.half_edges.proofs.graph.PlaneGraph.degree.Goals as goal
 
 pub overflow_sub-result : goal.overflow_sub-result
@@ -14,10 +14,10 @@ overflow_sub-result c =
 
 pub returns-clause-count : goal.returns-clause-count
 returns-clause-count c =
-    rw (← c.self.view_is) (λ p at ring is_ring. omega (arith, block_long c.self.invariant.graph c.args.v.0 c.index-2.result.now c.index.result.now p at c.index-2.ensures c.index.ensures ring is_ring))
+    rw (← c.self.view_is) (λ p at rotation is_rotation. omega (arith, block_long c.self.invariant.graph c.args.v.0 c.index-2.result.now c.index.result.now p at c.index-2.ensures c.index.ensures rotation is_rotation))
 
-pub returns-clause-ring : goal.returns-clause-ring
-returns-clause-ring c = rw (← c.self.view_is) (λ p at. ring_of c.self.invariant.graph c.args.v.0 p at)
+pub returns-clause-rotation : goal.returns-clause-rotation
+returns-clause-rotation c = rw (← c.self.view_is) (λ p at. rotation_of c.self.invariant.graph c.args.v.0 p at)
 
 pub returns-clause-sides : goal.returns-clause-sides
 returns-clause-sides c =
@@ -33,7 +33,7 @@ returns-clause-sides c =
 pub returns-clause-edges : goal.returns-clause-edges
 returns-clause-edges c = rw (← c.self.view_is)
     (λ p at.
-    let ring = ring_of c.self.invariant.graph c.args.v.0 p at in
-    let long = block_long c.self.invariant.graph c.args.v.0 c.index-2.result.now c.index.result.now p at c.index-2.ensures c.index.ensures ring.0 ring.1 in
-    let same : length ring.0 ≡ c.index.result.now - c.index-2.result.now = omega (arith, long) in
-    subst (HasDegree _ p) same (degree_of_ring _ p ring.0 c.self.invariant.graph.ends_in_order c.self.invariant.graph.each_once ring.1))
+    let rotation = rotation_of c.self.invariant.graph c.args.v.0 p at in
+    let long = block_long c.self.invariant.graph c.args.v.0 c.index-2.result.now c.index.result.now p at c.index-2.ensures c.index.ensures rotation.0 rotation.1 in
+    let same : length rotation.0 ≡ c.index.result.now - c.index-2.result.now = omega (arith, long) in
+    subst (HasDegree _ p) same (degree_of_rotation _ p rotation.0 c.self.invariant.graph.ends_in_order c.self.invariant.graph.each_once rotation.1))

@@ -2,8 +2,8 @@ use Rattle.std.proofs.Common.{arith, refl, length}
 use Rattle.std.proofs.lemmas.List.{length-map}
 use Rattle.std.proofs.lemmas.Option.{slice_get_read}
 use Rattle.nest_base.specs.declared.numbers.Side.{Side}
-use Rattle.half_edges.proofs.Items.{read-map}
-use Rattle.half_edges.proofs.GraphReads.{vertex_at_number, first_place_within, first_in_ring, ring_of}
+use Rattle.nest_base.proofs.ListReads.{read-map}
+use Rattle.half_edges.proofs.GraphReads.{vertex_at_number, first_place_within, first_in_rotation, rotation_of}
 use Rattle.half_edges.proofs.GraphCycles.{first_leaves}
 use Rattle.half_edges.proofs.graph.PlaneGraph.first_side.Goals as goal
 
@@ -21,10 +21,10 @@ returns-clause-first c =
     (λ p at.
     let within = first_place_within c.self.invariant.graph c.args.v.0 first p at c.index.ensures in
     let read = slice_get_read all (length all) first c.index-2.result.now refl (omega (arith, within, length-map all (λ s. s.0))) c.index-2.ensures in
-    first_in_ring c.self.invariant.graph c.args.v.0 first c.index-2.result.now.0 p at c.index.ensures (read-map (λ (s : Side). s.0) all first c.index-2.result.now read))
+    first_in_rotation c.self.invariant.graph c.args.v.0 first c.index-2.result.now.0 p at c.index.ensures (read-map (λ (s : Side). s.0) all first c.index-2.result.now read))
 
-pub returns-clause-ring : goal.returns-clause-ring
-returns-clause-ring c = rw (← c.self.view_is) (λ p at. ring_of c.self.invariant.graph c.args.v.0 p at)
+pub returns-clause-rotation : goal.returns-clause-rotation
+returns-clause-rotation c = rw (← c.self.view_is) (λ p at. rotation_of c.self.invariant.graph c.args.v.0 p at)
 
 pub returns-clause-within : goal.returns-clause-within
 returns-clause-within c =

@@ -9,7 +9,7 @@ index-requires c =
     omega (arith, below, c.self.inside.layout.positions.ok.0)
 
 pub returns-clause-place : goal.returns-clause-place
-returns-clause-place c = rw (← c.self.view_is) (λ h is ring is_ring. position_read c.self.invariant.graph c.args.s.0 c.index.result.now c.index.ensures h is ring is_ring)
+returns-clause-place c = rw (← c.self.view_is) (λ h is rotation is_rotation. position_read c.self.invariant.graph c.args.s.0 c.index.result.now c.index.ensures h is rotation is_rotation)
 
 pub returns-clause-number : goal.returns-clause-number
 returns-clause-number c =

@@ -1,6 +1,7 @@
 use Rattle.std.proofs.Common.{arith, length}
 use Rattle.half_edges.proofs.Numbers.{length-half_edges}
-use Rattle.half_edges.proofs.Twins.{IsSide-twin, twin_below}
+use Rattle.half_edges.proofs.Twins.{IsSide-twin}
+use Rattle.rotation_systems.proofs.Twins.{twin_below}
 use Rattle.half_edges.proofs.graph.PlaneGraph.twin.Goals as goal
 
 pub returns-clause-half : goal.returns-clause-half

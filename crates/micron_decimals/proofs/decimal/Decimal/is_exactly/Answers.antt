@@ -7,7 +7,7 @@ use Rattle.std.proofs.lemmas.Bool.{false_from_ne_true, and_right}
 use Rattle.std.proofs.lemmas.Bool.Decides.{Decides-int_eq}
 use Rattle.std.proofs.lemmas.Int.{ints, clamps, to_z-of_z}
 use Rattle.micron_decimals.specs.Decimals.{Decimal, signed, is_exactly}
-use Rattle.micron_decimals.specs.Places.{IsReadable, digits_of, is_zero, read_as}
+use Rattle.micron_decimals.specs.Places.{IsReadable, digits_of, is_zero, with_clamped_power}
 use Rattle.micron_decimals.proofs.Exactness.{not_before_first}
 use Rattle.micron_decimals.proofs.Exponents.{exactly_by}
 use Rattle.micron_decimals.proofs.decimal.Decimal.is_exactly.Goals as goal
@@ -18,7 +18,7 @@ max_place (pos p) m f g e = omega (arith, ints, clamps, f, g, e)
 max_place (negsuc p) m f g e = omega (arith, ints, clamps, f, g, e)
 
 -- what is read, by the digits behind the point and the number before it
-both : (c : After-from) (d : Decimal) → read_as d ≡ c.args.self.now →
+both : (c : After-from) (d : Decimal) → with_clamped_power d ≡ c.args.self.now →
     (list_all is_zero (drop (unsigned_abs (to_z w128 (of_z w128 c.max-place.result))) (digits_of c.args.self.now)) && int_eq c.signed.result c.args.whole) ≡ is_exactly d c.args.whole
 both c d e =
     let p = c.args.self.now in

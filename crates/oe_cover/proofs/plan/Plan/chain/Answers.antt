@@ -3,8 +3,8 @@ use Rattle.std.proofs.Common.{arith, rules, ◌≡◌, ◌≤◌, ◌<◌, ◌-�
 use Rattle.std.specs.Prelude.{Some, slice_get}
 use Rattle.std.proofs.lemmas.List.{length-take-le, length-drop}
 use Rattle.nest_base.specs.declared.numbers.Side.{Side}
-use Rattle.face_nesting.specs.Numbering.{numbers_of}
-use Rattle.face_nesting.proofs.NumbersOf.{numbers_of-between}
+use Rattle.nest_base.specs.NumberLists.{side_numbers}
+use Rattle.face_nesting.proofs.NumbersOf.{side_numbers-between}
 use Rattle.oe_cover.specs.Pieces.{AreEnds, begins_at, pieces}
 use Rattle.oe_cover.proofs.Pieces.{length-pieces, piece_at, piece_within}
 use Rattle.oe_cover.proofs.plan.Plan.chain.Goals as goal
@@ -12,14 +12,14 @@ use Rattle.oe_cover.proofs.plan.Plan.chain.Goals.{After-index}
 
 -- a plan, and the chain at a place of it
 record IsRead (sides : List Side) (ends : List ℕ) (chains : List (List ℕ)) (i first behind : ℕ) : Type 0 where
-  is_plan : pieces (numbers_of sides) 0 ends ≡ chains
+  is_plan : pieces (side_numbers sides) 0 ends ≡ chains
   are_ends : AreEnds 0 ends (length sides)
   within : i < length chains
   begins : first ≡ begins_at 0 ends i
   ends_there : behind ≡ get_or ends i behind
 
-as_many : (sides : List Side) (ends : List ℕ) (chains : List (List ℕ)) → pieces (numbers_of sides) 0 ends ≡ chains → length ends ≡ length chains
-as_many sides ends chains is = sym (length-pieces (numbers_of sides) 0 ends) ∙ ap length is
+as_many : (sides : List Side) (ends : List ℕ) (chains : List (List ℕ)) → pieces (side_numbers sides) 0 ends ≡ chains → length ends ≡ length chains
+as_many sides ends chains is = sym (length-pieces (side_numbers sides) 0 ends) ∙ ap length is
 
 bounds : {sides : List Side} {ends : List ℕ} {chains : List (List ℕ)} {i first behind : ℕ} → IsRead sides ends chains i first behind →
     (first < behind) × (behind ≤ length sides)
@@ -28,11 +28,11 @@ bounds {sides} {ends} {chains} {i} {first} {behind} r =
     (omega (arith, w.0, r.begins, r.ends_there), omega (arith, w.1, r.ends_there))
 
 reads : {sides : List Side} {ends : List ℕ} {chains : List (List ℕ)} {i first behind : ℕ} → IsRead sides ends chains i first behind →
-    slice_get chains i ≡ Some (numbers_of (take (behind - first) (drop first sides)))
+    slice_get chains i ≡ Some (side_numbers (take (behind - first) (drop first sides)))
 reads {sides} {ends} {chains} {i} {first} {behind} r =
-    let at = piece_at (numbers_of sides) 0 ends i behind (omega (arith, r.within, as_many sides ends chains r.is_plan)) in
+    let at = piece_at (side_numbers sides) 0 ends i behind (omega (arith, r.within, as_many sides ends chains r.is_plan)) in
     ap (λ cs. slice_get cs i) (sym r.is_plan) ∙ at
-    ∙ ap Some (ap (λ b. take (get_or ends i behind - b) (drop b (numbers_of sides))) (sym r.begins) ∙ ap (λ e. take (e - first) (drop first (numbers_of sides))) (sym r.ends_there) ∙ sym (numbers_of-between sides first behind))
+    ∙ ap Some (ap (λ b. take (get_or ends i behind - b) (drop b (side_numbers sides))) (sym r.begins) ∙ ap (λ e. take (e - first) (drop first (side_numbers sides))) (sym r.ends_there) ∙ sym (side_numbers-between sides first behind))
 
 holds_something : {sides : List Side} {ends : List ℕ} {chains : List (List ℕ)} {i first behind : ℕ} → IsRead sides ends chains i first behind →
     0 < length (take (behind - first) (drop first sides))

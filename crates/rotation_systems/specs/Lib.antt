@@ -1,0 +1,2 @@
+pub mod RotationSystem
+pub mod Twins

@@ -1,7 +1,0 @@
-use Rattle.std.proofs.Common.{refl}
-use Rattle.sample_edges.proofs.edges_from.Goals as goal
-
-pub returns-clause-within : goal.returns-clause-within
-returns-clause-within c =
-    let near = rw c.segments.ensures at (c.if-not-is_ready.ensures.within refl) in
-    c.in_ok-split.ensures.within 2000000000 near
