@@ -1,4 +1,4 @@
-//! Plain Rust's `str::parse` over the texts of `decimal_bench`, for `bench/run`: `parse COUNT`.
+//! Plain Rust's `str::parse` over the texts that `benches decimals` reads, for `bench/run`: `parse COUNT`.
 
 use std::hint::black_box;
 
