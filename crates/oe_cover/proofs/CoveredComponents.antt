@@ -1,16 +1,20 @@
 -- One more component is covered.
-use Rattle.std.proofs.Common.{arith, ◌≡◌, ◌⊎◌, inl, inr, ℕ, ◌+◌, ◌≤◌, ◌<◌, List, ◌++◌, length, length-append, sym, ap, subst, ◌∙◌}
+use Rattle.std.proofs.Common.{arith, ◌≡◌, ◌⊎◌, inl, inr, ℕ, Bool, ◌+◌, ◌≤◌, ◌<◌, List, ◌++◌, length, length-append, sym, ap, subst, ◌∙◌}
 use Rattle.std.specs.Prelude.{◌↔◌, All}
 use Rattle.std.proofs.lemmas.List.Elements.{All-append}
 use Rattle.half_edges.specs.Graph.{Graph, rotations_of, component_of, origin_of}
 use Rattle.half_edges.specs.Burns.{IsBurnt, with_burnt}
 use Rattle.half_edges.proofs.Numbers.{length-half_edges}
 use Rattle.cover_walks.specs.Orders.{Has, Once}
+use Rattle.cover_walks.specs.Chains.{chains_of}
 use Rattle.cover_walks.specs.Covers.{IsCoverOrder}
 use Rattle.cover_walks.proofs.Holdings.{has_inside, has_component, Has-after}
 use Rattle.component_route.specs.States.{IsUnburnt}
 use Rattle.oe_cover.specs.declared.planner.Planner.{Planner}
-use Rattle.oe_cover.specs.Planning.{IsPlanning, planned}
+use Rattle.oe_cover.specs.Cuts.{meets}
+use Rattle.oe_cover.specs.Drafts.{chains_in}
+use Rattle.oe_cover.specs.Planning.{IsPlanning, HasAppended, NothingPlanned, planned}
+use Rattle.oe_cover.proofs.Cuts.{chains_meeting}
 use Rattle.oe_cover.proofs.PlannedOrders.{Has-either, Has-before, Once-both, all_few, all_within}
 
 -- the component of start has been covered since x, by this order
@@ -70,3 +74,13 @@ module _ {o x y : Graph} {p : Planner} {start : ℕ} {order : List ℕ} (h : Has
       ]
     ],
   )
+
+-- where a chain goes on from the vertex to which it leads, the chains of its order are appended
+pub chains_appended : {o : Graph} {start : ℕ} {answers_by : (ℕ → ℕ → Bool) → Type 0} {before after : Planner} (covered : HasAppended o start answers_by before after) → answers_by meets →
+    chains_in after.draft ≡ chains_in before.draft ++ chains_of (rotations_of o) covered.order
+chains_appended {o} {before = before} covered meeting = covered.chains meets meeting ∙ ap (λ chains. chains_in before.draft ++ chains) (chains_meeting (rotations_of o) covered.order)
+
+-- and stand alone where nothing was planned before
+pub chains_alone : {o : Graph} {start : ℕ} {answers_by : (ℕ → ℕ → Bool) → Type 0} {before after : Planner} (covered : HasAppended o start answers_by before after) → answers_by meets →
+    NothingPlanned before → chains_in after.draft ≡ chains_of (rotations_of o) covered.order
+chains_alone {o} covered meeting nothing = chains_appended covered meeting ∙ ap (λ chains. chains ++ chains_of (rotations_of o) covered.order) nothing.chains

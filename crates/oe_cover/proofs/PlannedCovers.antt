@@ -1,5 +1,5 @@
 -- The covers of the components that are planned, and one more.
-use Rattle.std.proofs.Common.{arith, ◌≡◌, ◌≢◌, ◌⊎◌, inl, inr, ◌<◌, ◌+◌, ℕ, List, [], ◌∷◌, ◌++◌, Option, length, length-take, take, map, refl, sym, ap, subst, ◌∙◌}
+use Rattle.std.proofs.Common.{arith, ◌≡◌, ◌≢◌, ◌⊎◌, inl, inr, ◌<◌, ◌+◌, ℕ, Bool, List, [], ◌∷◌, ◌++◌, Option, length, length-take, take, map, refl, sym, ap, subst, ◌∙◌}
 use Rattle.std.specs.Prelude.{AllPairs, Contains, Some, slice_get}
 use Rattle.std.proofs.lemmas.List.{append-nil, map-append}
 use Rattle.std.proofs.lemmas.Grind.{flat_map-append}
@@ -26,12 +26,14 @@ use Rattle.cover_walks.specs.Chains.{chains_of}
 use Rattle.cover_walks.proofs.Holdings.{Has-after}
 use Rattle.component_route.specs.States.{IsUnburnt}
 use Rattle.oe_cover.specs.declared.planner.Planner.{Planner}
+use Rattle.oe_cover.specs.Cuts.{meets}
 use Rattle.oe_cover.specs.Drafts.{chains_in}
 use Rattle.oe_cover.specs.Trails.{trails_by}
 use Rattle.oe_cover.specs.Starts.{IsFirstStart}
 use Rattle.oe_cover.specs.Ends.{IsFirstOfStarts}
 use Rattle.oe_cover.specs.Planning.{IsPlanning, HasAppended, HasPlanned, planned}
 use Rattle.oe_cover.proofs.PlannedOrders.{Has-either, Has-before}
+use Rattle.oe_cover.proofs.CoveredComponents.{chains_appended}
 use Rattle.oe_cover.proofs.FirstEnds.{first_of_starts}
 use Rattle.oe_cover.proofs.ComponentStarts.{HasStart, start_component, mark, half, component_cover, ends_there, has_all}
 
@@ -75,7 +77,8 @@ module _ {o : Graph} {faces : Nesting} (order : List ℕ) (i c start : ℕ) (at 
         | inr has ↦ has
       ]
 
-  module _ (first : IsFirstStart o (cycle_at faces c) start) (before after : Planner) (is : HasPlanned o (take i order) before) (covered : HasAppended o start before after) where
+  module _ {answers_by : (ℕ → ℕ → Bool) → Type 0} (first : IsFirstStart o (cycle_at faces c) start) (before after : Planner) (is : HasPlanned o (take i order) before)
+      (covered : HasAppended o start answers_by before after) (meeting : answers_by meets) where
     abbrev own : List (List HalfEdge)
     own = trails_by o.edges (chains_of (rotations_of o) covered.order)
 
@@ -92,7 +95,7 @@ module _ {o : Graph} {faces : Nesting} (order : List ℕ) (i c start : ℕ) (at 
         first_of_starts faces h.plane h.cycles c (mark h).0 (mark h).1 start (half h).0 (half h).1 first,
         ends_there h covered.order covered.covers (half h).0 (half h).1,
       );
-      trails = ap (trails_by o.edges) covered.chains ∙ trails_by-append o (chains_in before.draft) (chains_of (rotations_of o) covered.order)
+      trails = ap (trails_by o.edges) (chains_appended covered meeting) ∙ trails_by-append o (chains_in before.draft) (chains_of (rotations_of o) covered.order)
           ∙ ap (λ trails. trails ++ own) is.trails ∙ sym (all_trails_more is.component_covers own);
       inside = λ s has. elim (Has-either (rotations_of o) (planned before) covered.order s (subst (λ l. Has (rotations_of o) l s) covered.sides has)) [
         | inl old ↦ stands_in_front order i c (component_of o (origin_of o s)) at (is.inside s old)

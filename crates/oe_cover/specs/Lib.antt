@@ -1,5 +1,5 @@
 pub mod Pieces
-pub mod ChainEnds
+pub mod Cuts
 pub mod Drafts
 pub mod Starts
 pub mod Ends

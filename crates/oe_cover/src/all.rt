@@ -41,7 +41,7 @@ pub fn cover_all(alloc: Global, graph: &mut PlaneGraph, faces: &Faces) -> Result
     let order = burning_order(alloc, faces.parents())?;
     for c in &order {
         let start = first_start(graph, faces, *c);
-        planner.cover(graph, start);
+        planner.cover(graph, start, &|to, from| to == from);
     }
     Ok(planner.finish())
 }

@@ -39,6 +39,6 @@ pub fn cover_component(
     ensures err { OnErr result (graph.new ≡ graph.old) }
 {
     let mut planner = Planner::new(alloc, graph)?;
-    planner.cover(graph, start);
+    planner.cover(graph, start, &|to, from| to == from);
     Ok(planner.finish())
 }

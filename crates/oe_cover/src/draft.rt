@@ -1,15 +1,14 @@
 //! A plan while it is made.
-ghost use Rattle.std.specs.Prelude.{◌≡◌, ◌≤◌, ◌<◌, ◌+◌, ◌∷◌, [], ◌++◌, ℕ, length, All, IfOk, drop};
+ghost use Rattle.std.specs.Prelude.{◌≡◌, ◌≤◌, ◌<◌, ◌+◌, ◌∷◌, [], ◌++◌, ℕ, Bool, length, All, IfOk, drop};
 ghost use Rattle.half_edges.specs.Numbers.{half_edges_of};
 ghost use Rattle.half_edges.specs.Graph.{rotations_of};
 ghost use Rattle.nest_base.specs.NumberLists.{side_numbers};
 ghost use Rattle.nest_base.specs.Limits.{most_edges};
-ghost use Rattle.cover_walks.specs.Chains.{chains_of};
-ghost use Rattle.oe_cover.specs.ChainEnds.{chain_length};
+ghost use Rattle.oe_cover.specs.Cuts.{AnswersBy, chain_length, chains_by};
 ghost use Rattle.oe_cover.specs.Drafts.{IsDraft, chains_in};
 
 use half_edges::PlaneGraph;
-use nest_base::{OutOfMemory, Side};
+use nest_base::{OutOfMemory, Side, VertexId};
 use std::alloc::Global;
 
 /// A plan that is being made. Its room is taken at once, so that it grows without memory.
@@ -45,17 +44,25 @@ impl Draft {
         self.ends.push(self.sides.len() as u32).unwrap();
     }
 
-    /// Appends an order, cut where a half-edge doesn't leave the vertex to which the one before it leads.
-    pub fn push_order(&mut self, graph: &PlaneGraph, order: &[Side])
+    /// Appends an order, cut into chains: of the vertex to which a half-edge leads and the one that the next leaves, `goes_on` says
+    /// whether its chain goes on.
+    pub fn push_order<F: Fn(VertexId, VertexId) -> bool>(
+        &mut self,
+        graph: &PlaneGraph,
+        order: &[Side],
+        goes_on: &F,
+    )
+        requires test { F.IsAlwaysCallable goes_on.now }
         requires known { (room : ℕ) × IsDraft room self.old × (room ≤ most_edges) × (length self.old.sides.items + length order.now ≤ room) }
         requires within { All (λ s. s.0 < length (half_edges_of graph.now.edges)) order.now }
-        ensures chains { chains_in self.new ≡ chains_in self.old ++ chains_of (rotations_of graph.now) (side_numbers order.now) }
+        ensures chains { (rule : ℕ → ℕ → Bool) → AnswersBy (F.post goes_on.now) rule
+            → chains_in self.new ≡ chains_in self.old ++ chains_by rule (rotations_of graph.now) (side_numbers order.now) }
         ensures sides { self.new.sides.items ≡ self.old.sides.items ++ order.now }
         ensures room { (room : ℕ) → IsDraft room self.old → IsDraft room self.new }
     {
         let mut first = 0;
         while first < order.len() {
-            let behind = chain_end(graph, order, first);
+            let behind = chain_end(graph, order, first, goes_on);
             self.push_chain(&order[first..behind]);
             first = behind;
         }
@@ -63,14 +70,22 @@ impl Draft {
 }
 
 /// The place behind the chain that begins at place `first` of an order.
-fn chain_end(graph: &PlaneGraph, order: &[Side], first: usize) -> usize
+fn chain_end<F: Fn(VertexId, VertexId) -> bool>(
+    graph: &PlaneGraph,
+    order: &[Side],
+    first: usize,
+    goes_on: &F,
+) -> usize
+    requires test { F.IsAlwaysCallable goes_on.now }
     requires within { All (λ s. s.0 < length (half_edges_of graph.now.edges)) order.now }
     requires some { first < length order.now }
-    ensures long { result ≡ first + chain_length (rotations_of graph.now) (drop first (side_numbers order.now)) }
+    ensures long { (rule : ℕ → ℕ → Bool) → AnswersBy (F.post goes_on.now) rule
+        → result ≡ first + chain_length rule (rotations_of graph.now) (drop first (side_numbers order.now)) }
+    ensures some { first < result }
     ensures bound { result ≤ length order.now }
 {
     let mut last = first;
-    while last + 1 < order.len() && graph.to(order[last]) == graph.from(order[last + 1]) {
+    while last + 1 < order.len() && goes_on(graph.to(order[last]), graph.from(order[last + 1])) {
         last += 1;
     }
     last + 1

@@ -1,5 +1,5 @@
 -- Component by component, in burning order.
-use Rattle.std.proofs.Common.{arith, ◌≡◌, ◌<◌, ℕ, List, length, get_or, sym, ap, subst, subst₂, ◌∙◌}
+use Rattle.std.proofs.Common.{arith, rules, ◌≡◌, ◌<◌, ℕ, List, length, get_or, sym, ap, subst, subst₂, ◌∙◌}
 use Rattle.std.proofs.lemmas.List.{length-map, take_all}
 use Rattle.std.proofs.lemmas.Option.{slice_get-get_or}
 use Rattle.std.specs.Prelude.{All, Option, Some, option_map, slice_get}
@@ -101,7 +101,8 @@ loop-c-preserved c =
           (begins at.After-first_start-start (burns at.After-deref-c-items))
           (first_before c.args.graph.now c.loop-c.graph (cycle_at c.args.faces.now (get_or order c.loop-c.c-index (record { 0 = 0 })).0) c.first_start-start.result.0 c.loop-c.invariant.planning.graph c.first_start-start.ensures.first)
           c.loop-c.planner c.cover.new.self c.loop-c.invariant.planned
-          (c.cover.ensures.covered c.args.graph.now c.loop-c.invariant.planning);
+          (c.cover.ensures.covered c.args.graph.now c.loop-c.invariant.planning)
+          (λ to from answer gave. search rules);
     }
 
 -- in the end all components are planned

@@ -8,9 +8,9 @@ use Rattle.half_edges.specs.Burns.{IsBurnt}
 use Rattle.nest_base.proofs.NumberLists.{length-side_numbers}
 use Rattle.nest_base.specs.NumberLists.{side_numbers}
 use Rattle.face_nesting.proofs.NumbersOf.{side_number}
-use Rattle.cover_walks.specs.Chains.{chains_of}
 use Rattle.cover_walks.specs.Orders.{Has}
 use Rattle.cover_walks.specs.Covers.{IsCoverOrder}
+use Rattle.oe_cover.specs.Cuts.{chains_by}
 use Rattle.oe_cover.specs.Drafts.{chains_in}
 use Rattle.oe_cover.specs.Planning.{IsPlanning, planned}
 use Rattle.oe_cover.proofs.SideOrders.{number_at}
@@ -19,13 +19,13 @@ use Rattle.oe_cover.proofs.planner.Planner.cover.Goals as goal
 use Rattle.oe_cover.proofs.planner.Planner.cover.Goals.{After-order}
 
 pub cover-requires-clause-room : goal.cover-requires-clause-room
-cover-requires-clause-room c =
+cover-requires-clause-room g c =
     let (o, is) = c.requires.known in
     omega (arith, ap (λ r. r.room) is.route, ap (λ (x : Graph). length x.edges) is.graph)
 
 -- the order of the route is a cover
-cover_order : (c : After-order) → IsCoverOrder (rotations_of c.args.graph.now) (component_of c.args.graph.now) c.args.start.0 c.cover.new.route.done
-cover_order c =
+cover_order : (g : _) (c : After-order g) → IsCoverOrder (rotations_of c.args.graph.now) (component_of c.args.graph.now) c.args.start.0 c.cover.new.route.done
+cover_order g c =
     let edges = c.cover.ensures.edges in
     record {
       some = edges.some;
@@ -38,28 +38,28 @@ cover_order c =
     }
 
 -- what stands once it is covered
-covered : (c : After-order) (o : Graph) → IsPlanning o c.args.graph.now c.args.self.now →
+covered : (g : _) (c : After-order g) (o : Graph) → IsPlanning o c.args.graph.now c.args.self.now →
     HasCovered o c.args.graph.now c.cover.new.graph c.args.self.now c.args.start.0 (side_numbers c.order.result.now)
-covered c o is =
+covered g c o is =
     let x = c.args.graph.now in
     record {
       planning = is;
       unburnt = c.requires.unburnt;
-      covers = subst (IsCoverOrder (rotations_of x) (component_of x) c.args.start.0) (sym c.order.ensures) (cover_order c);
+      covers = subst (IsCoverOrder (rotations_of x) (component_of x) c.args.start.0) (sym c.order.ensures) (cover_order g c);
       burnt = λ s. subst (λ order. IsBurnt c.cover.new.graph s ↔ (IsBurnt x s ⊎ Has (rotations_of x) order s)) (sym c.order.ensures) (c.cover.ensures.burnt s);
       graph = c.cover.ensures.same;
     }
 
 pub push_order-requires-clause-known : goal.push_order-requires-clause-known
-push_order-requires-clause-known c =
+push_order-requires-clause-known g c =
     let (o, is) = c.requires.known in
-    let fits = fits_after (covered (goal.at.push_order-requires-clause-known c).After-order o is) in
+    let fits = fits_after (covered g (goal.at.push_order-requires-clause-known g c).After-order o is) in
     (length o.edges, is.draft, is.plane.few, omega (arith, fits, length-side_numbers c.args.self.now.draft.sides.items, length-side_numbers c.order.result.now))
 
 pub push_order-requires-clause-within : goal.push_order-requires-clause-within
-push_order-requires-clause-within c k d within =
+push_order-requires-clause-within g c k d within =
     let (o, is) = c.requires.known in
-    let h = covered (goal.at.push_order-requires-clause-within c).After-order o is in
+    let h = covered g (goal.at.push_order-requires-clause-within g c).After-order o is in
     let order = c.order.result.now in
     let numbers = side_numbers order in
     let below : get_or numbers k 0 < length (half_edges_of o.edges) = order_within h k 0 (omega (arith, within, length-side_numbers order)) in
@@ -67,8 +67,8 @@ push_order-requires-clause-within c k d within =
     omega (arith, below, same, number_at order k d within)
 
 pub returns-clause-ready : goal.returns-clause-ready
-returns-clause-ready c o is =
-    let h = covered (goal.at.returns-clause-ready c).After-order o is in
+returns-clause-ready g c o is =
+    let h = covered g (goal.at.returns-clause-ready g c).After-order o is in
     let all : planned (record { route = c.clear.new.self; draft = c.push_order.new.self }) ≡ planned c.args.self.now ++ side_numbers c.order.result.now =
     ap side_numbers c.push_order.ensures.sides ∙ map-append side_number c.args.self.now.draft.sides.items c.order.result.now in
     record {
@@ -82,11 +82,16 @@ returns-clause-ready c o is =
     }
 
 pub returns-clause-covered : goal.returns-clause-covered
-returns-clause-covered c o is =
-    let h = covered (goal.at.returns-clause-covered c).After-order o is in
+returns-clause-covered g c o is =
+    let h = covered g (goal.at.returns-clause-covered g c).After-order o is in
     record {
       order = side_numbers c.order.result.now;
       covers = covers_before h;
       sides = ap side_numbers c.push_order.ensures.sides ∙ map-append side_number c.args.self.now.draft.sides.items c.order.result.now;
-      chains = c.push_order.ensures.chains ∙ ap (λ (g : Graph). chains_in c.args.self.now.draft ++ chains_of (rotations_of g) (side_numbers c.order.result.now)) (as_before h);
+      chains = λ rule answers. c.push_order.ensures.chains rule answers ∙ ap (λ (x : Graph). chains_in c.args.self.now.draft ++ chains_by rule (rotations_of x) (side_numbers c.order.result.now)) (as_before h);
     }
+
+pub returns-clause-ends : goal.returns-clause-ends
+returns-clause-ends g c =
+    let (o, is) = c.requires.known in
+    (c.push_order.ensures.room (length o.edges) is.draft).are_ends
