@@ -5,14 +5,16 @@
 //! file takes **O(n)** bytes moved for n bytes of the file, and one call for each piece that the desk takes or gives.
 //!
 //! The program reads its drawing, writes its code and prints its lines through this trait. `RealDesk` stands on files and
-//! standard output. `MemoryDesk` holds everything in memory and fails where it is told to; each of its calls looks through
-//! its m names and k numbers of failing calls, **O(m + k)**.
+//! standard output, and keeps the file of its last read open. `MemoryDesk` holds everything in memory and fails where it is
+//! told to; each of its calls looks through its m names and k numbers of failing calls, **O(m + k)**.
 #![tactic(auto)]
 
 pub mod desk;
 pub mod memory;
+mod opened;
 pub mod real;
 mod slot;
+mod system;
 #[cfg(test)]
 mod tests;
 pub mod whole;
