@@ -5,3 +5,4 @@ pub mod Examples
 pub mod DrawingBuilder
 pub mod EntityReader
 pub mod Reading
+pub mod Ranges

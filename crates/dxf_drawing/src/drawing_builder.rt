@@ -1,6 +1,7 @@
 //! The drawing so far, or why it's refused.
 ghost use Rattle.std.specs.Prelude.{◌≡◌, [], ◌∷◌, ◌++◌, List, Some, None, OnOk, IfOk, IfErr, is_some, true, All};
-ghost use Rattle.nest_base.specs.Range.{IsSegmentWithin, range};
+ghost use Rattle.nest_base.specs.Range.{IsWithin, IsSegmentWithin, range};
+ghost use Rattle.dxf_drawing.specs.Ranges.{AreInRange};
 ghost use Rattle.dxf_drawing.specs.Events.{Event, Draws, Names, Refuses, segment_events};
 ghost use Rattle.dxf_drawing.specs.DrawingBuilder.{Holds};
 
@@ -24,14 +25,13 @@ pub struct DrawingBuilder {
 
 impl Model for DrawingBuilder {
     ghost use Rattle.dxf_drawing.specs.DrawingBuilder.{DrawingSoFar};
-    ghost use Rattle.std.specs.Prelude.{All};
-    ghost use Rattle.nest_base.specs.Range.{IsSegmentWithin, range};
+    ghost use Rattle.dxf_drawing.specs.Ranges.{AreInRange};
 
     ghost Value = { DrawingSoFar };
 
     ghost view = { λ k. record { drawing = k.drawing; refusal = k.refusal } };
 
-    ghost invariant = { λ k. All (IsSegmentWithin range) k.drawing.segments };
+    ghost invariant = { λ k. AreInRange k.drawing };
 }
 
 impl DrawingBuilder {
@@ -49,7 +49,7 @@ impl DrawingBuilder {
     pub fn into_drawing(self) -> Result<Drawing, DrawingError>
         ensures ok { IfOk result (λ drawing. (drawing ≡ self.drawing) × (self.refusal ≡ None)) }
         ensures err { IfErr result (λ why. self.refusal ≡ Some why) }
-        ensures within { IfOk result (λ drawing. All (IsSegmentWithin range) drawing.segments) }
+        ensures within { IfOk result AreInRange }
     {
         let DrawingBuilder { drawing, refusal } = self;
         match refusal {
@@ -106,6 +106,7 @@ impl DrawingBuilder {
 
     /// Adds a name, where there is room for it.
     pub fn add_name(&mut self, name: Name) -> Result<(), OutOfMemory>
+        requires within { IsWithin range name.at }
         ensures { OnOk result ((events : List Event) → Holds self.old events → Holds self.new (events ++ Names name ∷ [])) }
     {
         if self.refusal.is_some() {

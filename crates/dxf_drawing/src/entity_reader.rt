@@ -1,6 +1,6 @@
 //! The entities of a drawing and their events, pair by pair.
 ghost use Rattle.std.specs.Prelude.{◌≡◌, [], ◌∷◌, ◌++◌, List, Option, option_map, Some, None, OnOk, IfOk, IfErr, All};
-ghost use Rattle.nest_base.specs.Range.{IsSegmentWithin, range};
+ghost use Rattle.dxf_drawing.specs.Ranges.{AreInRange};
 ghost use Rattle.dxf_groups.specs.Pairs.{Pair};
 ghost use Rattle.dxf_entities.specs.Entities.{Entity, with_pair, shape_of, line_of};
 ghost use Rattle.dxf_entities.specs.Refusals.{groups_refusal, space_of};
@@ -73,7 +73,7 @@ impl EntityReader {
     pub fn into_drawing(self) -> Result<Drawing, DrawingError>
         ensures ok { IfOk result (λ drawing. (drawing ≡ self.built.drawing) × (self.built.refusal ≡ None)) }
         ensures err { IfErr result (λ why. self.built.refusal ≡ Some why) }
-        ensures within { IfOk result (λ drawing. All (IsSegmentWithin range) drawing.segments) }
+        ensures within { IfOk result AreInRange }
     {
         self.built.into_drawing()
     }

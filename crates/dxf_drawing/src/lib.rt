@@ -11,6 +11,8 @@ pub mod examples;
 pub mod read;
 mod reader;
 pub mod state;
+#[cfg(test)]
+mod tests;
 
 pub use dxf_entities::{DrawingError, Kind, Label};
 pub use read::read_drawing;

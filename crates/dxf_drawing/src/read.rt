@@ -1,6 +1,6 @@
 //! Drawings, read from the bytes of a file.
 ghost use Rattle.std.specs.Prelude.{◌≡◌, ◌≢◌, ◌≤◌, ◌^◌, ◌⊎◌, Some, None, IfOk, IfErr, All, length};
-ghost use Rattle.nest_base.specs.Range.{IsSegmentWithin, range};
+ghost use Rattle.nest_base.specs.Range.{IsWithin, IsSegmentWithin, range};
 ghost use Rattle.nest_base.specs.Limits.{most_bytes, most_segments, most_names};
 ghost use Rattle.dxf_entities.specs.declared.error.DrawingError.TheVariants.{OutOfMemory as NoMemory};
 ghost use Rattle.dxf_drawing.specs.Drawings.{segments_of, names_of, read_refusal_of};
@@ -22,6 +22,7 @@ pub fn read_drawing(alloc: Global, bytes: &[u8]) -> Result<Drawing, DrawingError
     ensures most_segments { IfOk result (λ drawing. length drawing.segments ≤ most_segments) }
     ensures most_names { IfOk result (λ drawing. length drawing.names ≤ most_names) }
     ensures within { IfOk result (λ drawing. All (IsSegmentWithin range) drawing.segments) }
+    ensures names_within { IfOk result (λ drawing. All (λ name. IsWithin range name.at) drawing.names) }
     ensures lengths { IfOk result (λ drawing. All (λ s. s.a ≢ s.b) drawing.segments) }
     ensures refused { IfErr result (λ why. (why ≡ NoMemory) ⊎ (read_refusal_of bytes.now ≡ Some why)) }
 {

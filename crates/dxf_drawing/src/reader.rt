@@ -6,7 +6,7 @@ ghost use Rattle.dxf_drawing.specs.EntityReader.{EntityReaderAt};
 ghost use Rattle.dxf_groups.specs.Laws.{listed};
 ghost use Rattle.dxf_drawing.specs.Reading.{ReaderAt, IsAtTheEnd, IsFound, IsRead};
 ghost use Rattle.dxf_drawing.specs.Drawings.{read_refusal_of};
-ghost use Rattle.nest_base.specs.Range.{IsSegmentWithin, range};
+ghost use Rattle.dxf_drawing.specs.Ranges.{AreInRange};
 ghost use Rattle.nest_base.specs.Limits.{most_bytes};
 
 use crate::entity_reader::EntityReader;
@@ -62,7 +62,7 @@ impl Reader {
     pub fn into_drawing(self) -> Result<Drawing, DrawingError>
         ensures ok { IfOk result (λ drawing. (bytes : List ℕ) → IsAtTheEnd self bytes → IsRead bytes drawing) }
         ensures err { IfErr result (λ why. (bytes : List ℕ) → IsAtTheEnd self bytes → read_refusal_of bytes ≡ Some why) }
-        ensures within { IfOk result (λ drawing. All (IsSegmentWithin range) drawing.segments) }
+        ensures within { IfOk result AreInRange }
     {
         if let Some(fault) = self.groups.fault() {
             return Err(DrawingError::Groups(fault));
