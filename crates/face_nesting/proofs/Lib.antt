@@ -23,3 +23,11 @@ mod OuterCycles
 mod Parents
 mod NestingLists
 mod FaceCounts
+mod RankWrites
+mod RankSpreads
+mod BorderLinks
+mod Crossings
+mod RankDistances
+mod RankWalks
+mod WaysOut
+mod FaceRanks

@@ -33,11 +33,12 @@ module _ {graph : Graph} {mark_sides cycle_of sides starts : List ℕ} {sights :
       let head = zip_first (IsCycleFrom (rotations_of graph)) (heads found.are_cycles) (cycles found.are_cycles) c cycle.0 found.are_cycles.are_cycles.each cycle.1 in
       (cycle.0, slice_at sides starts (cycles found.are_cycles) c cycle.0 found.are_cycles.are_cycles.are_sides found.are_cycles.are_cycles.are_starts cycle.1, slice_get_within cycle.0 0 head.0 head.2.begins)
 
-  pub is_nesting : (faces : List ℕ) (count : ℕ) (parents : List (Option ℕ)) → count ≡ length starts - 1 - length mark_sides + 1 → length parents ≡ length graph.marks →
-      IsNesting (record { faces = faces; count = count; parents = parents; sides = sides; starts = starts })
-  is_nesting faces count parents is as_many = record {
+  pub is_nesting : (faces : List ℕ) (count : ℕ) (ranks : List ℕ) (parents : List (Option ℕ)) → length ranks ≡ count → count ≡ length starts - 1 - length mark_sides + 1 → length parents ≡ length graph.marks →
+      IsNesting (record { faces = faces; count = count; ranks = ranks; parents = parents; sides = sides; starts = starts })
+  is_nesting faces count ranks parents ranked is as_many = record {
     some = omega (arith, is);
     fits = omega (arith, is, starts_of_cycles, cycles_within);
+    ranked = ranked;
     cycles = omega (arith, as_many, starts_of_cycles, enough_cycles);
     rising = λ c below.
         let here = slice_of c (omega (arith, below, as_many)) in

@@ -1,9 +1,9 @@
 -- What is seen among the first of some edges, and the number of what is seen among all.
-use Rattle.std.proofs.Common.{arith, ◌≡◌, ◌⊎◌, inl, inr, ℕ, ◌+◌, ◌*◌, ◌<◌, ◌<ℤ◌, List, length, take, get_or, Option, None, Some, slice_get, sym, subst, ◌∙◌}
+use Rattle.std.proofs.Common.{arith, ◌≡◌, ◌⊎◌, inl, inr, ℕ, ◌+◌, ◌*◌, ◌<◌, ◌<ℤ◌, List, length, take, Option, None, Some, slice_get, sym, subst, ◌∙◌}
 use Rattle.std.specs.Prelude.{All, Contains, IfSome, IfNone}
 use Rattle.std.proofs.lemmas.Int.{ints}
 use Rattle.std.proofs.lemmas.List.Elements.{All-contains, Contains-push_cases}
-use Rattle.std.proofs.lemmas.Option.{slice_get_within, get_or_from_slice_get}
+use Rattle.std.proofs.lemmas.Option.{slice_get_within}
 use Rattle.nest_base.specs.declared.places.Point.{Point}
 use Rattle.nest_base.specs.declared.places.Edge.{Edge}
 use Rattle.nest_base.specs.declared.numbers.Side.{Side}
@@ -16,7 +16,7 @@ use Rattle.plate_sides.proofs.HalfEdges.{from_is_end}
 use Rattle.plate_nesting.proofs.Nearer.{nearer_then}
 use Rattle.plate_nesting.proofs.Seen.{met_falls, not_nearer_itself}
 use Rattle.half_edges.specs.Numbers.{IsSide}
-use Rattle.nest_base.proofs.ListReads.{Contains-from_read}
+use Rattle.nest_base.proofs.ListReads.{Contains-from_read, one_read}
 use Rattle.half_edges.proofs.Numbers.{side_low, side_high}
 use Rattle.face_nesting.specs.Numbering.{number_seen}
 use Rattle.face_nesting.specs.Sights.{IsSight}
@@ -117,8 +117,8 @@ module _ (edges : List Edge) (k : ℕ) (e : Edge) (at : slice_get edges k ≡ So
     }
 
 -- an edge that stands at this place is no other
-pub nearest_at : (edges so_far : List Edge) (p : Point) (n : ℕ) (known : IsNearestAt edges so_far p n) (d : Edge) → GoesDown (get_or edges n d) known.side
-nearest_at edges so_far p n known d = subst (λ e. GoesDown e known.side) (sym (get_or_from_slice_get edges n known.edge d known.at)) known.goes_down
+pub nearest_at : (edges so_far : List Edge) (p : Point) (n : ℕ) (known : IsNearestAt edges so_far p n) (e : Edge) → slice_get edges n ≡ Some e → GoesDown e known.side
+nearest_at edges so_far p n known e at = subst (λ e. GoesDown e known.side) (one_read edges n known.edge e known.at at) known.goes_down
 
 pub nearest_within : (edges so_far : List Edge) (p : Point) (n : ℕ) → IsNearestAt edges so_far p n → n < length edges
 nearest_within edges so_far p n known = slice_get_within edges n known.edge known.at

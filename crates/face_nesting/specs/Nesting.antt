@@ -6,7 +6,7 @@ use Rattle.nest_base.specs.declared.places.Edge.{Edge}
 use Rattle.nest_base.specs.Plane.{HalfEdge}
 use Rattle.nest_base.specs.Limits.{most_half_edges}
 use Rattle.plate_sides.specs.Links.{Outer, At}
-use Rattle.plate_sides.specs.Reach.{SameFace}
+use Rattle.plate_sides.specs.Reach.{SameFace, IsRank}
 use Rattle.plate_sides.specs.Nesting.{IsOuterCycle}
 use Rattle.half_edges.specs.Numbers.{IsSide}
 use Rattle.half_edges.specs.Graph.{Graph}
@@ -17,6 +17,8 @@ pub record Nesting : Type 0 where
   pub faces : List ℕ
   -- how many faces there are
   pub count : ℕ
+  -- by number of a face: its rank
+  pub ranks : List ℕ
   -- by number of a component: that of its parent
   pub parents : List (Option ℕ)
   -- half-edges cycle by cycle, the outer sides of each component first; and where each cycle begins
@@ -31,6 +33,7 @@ cycle_at nesting c = take (slice_index nesting.starts (c + 1) - slice_index nest
 pub record IsNesting (nesting : Nesting) : Type 0 where
   pub some : 0 < nesting.count
   pub fits : nesting.count ≤ most_half_edges + 1
+  pub ranked : length nesting.ranks ≡ nesting.count
   pub cycles : length nesting.parents < length nesting.starts
   pub rising : (c : ℕ) → c < length nesting.parents → slice_index nesting.starts c < slice_index nesting.starts (c + 1)
   pub within : (c : ℕ) → c < length nesting.parents → slice_index nesting.starts (c + 1) ≤ length nesting.sides
@@ -46,6 +49,11 @@ pub record IsFaceCount (faces : List ℕ) (count : ℕ) : Type 0 where
   pub outer_counts : outer_face < count
   pub below : All (λ f. f < count) faces
   pub each : (f : ℕ) → f < count → (f ≡ outer_face) ⊎ Contains faces f
+
+-- ranks by number of a face: that of the outer one is 0, and that of the face of each half-edge the fewest edges to cross from there to Outer
+pub record AreRanks (edges : List Edge) (faces ranks : List ℕ) : Type 0 where
+  pub outer : slice_get ranks outer_face ≡ Some 0
+  pub each : (s : ℕ) (h : HalfEdge) → IsSide edges s h → IsRank edges (At h) (slice_index ranks (slice_index faces s))
 
 -- the numbers of the outer sides of the component with this mark vertex, round from the mark side on
 abbrev pub AreOuterSides : List Edge → Point → List ℕ → Type 0

@@ -8,6 +8,7 @@ abbrev pub nesting_view : Inside → Nesting
 nesting_view f = record {
   faces = face_numbers_of f.face_list.items;
   count = f.number_of_faces;
+  ranks = f.rank_list.items;
   parents = parent_numbers f.parent_list.items;
   sides = side_numbers f.sides.items;
   starts = f.starts.items;

@@ -5,12 +5,13 @@ ghost use Rattle.plate_sides.specs.Nesting.{HasMarkSides, SeesOne, AreParents};
 ghost use Rattle.half_edges.specs.Numbers.{half_edges_of};
 ghost use Rattle.face_nesting.specs.Numbering.{outer_face};
 ghost use Rattle.nest_base.specs.NumberLists.{parent_numbers, side_numbers};
-ghost use Rattle.face_nesting.specs.Nesting.{AreFaces, IsFaceCount, AreOuterCycles, cycle_at};
+ghost use Rattle.face_nesting.specs.Nesting.{AreFaces, IsFaceCount, AreRanks, AreOuterCycles, cycle_at};
 
 use crate::cycles::cycles_of;
 use crate::marks::mark_sides;
 pub use crate::numbering::FaceId;
 use crate::numbering::{OUTER, faces_of, outer_faces, parents_of};
+use crate::ranks::ranks_of;
 use crate::sights::sights_of;
 use half_edges::PlaneGraph;
 use nest_base::{Component, Edges, OutOfMemory, Side};
@@ -24,6 +25,7 @@ use std::marker::Model;
 pub struct Faces {
     face_list: Vec<FaceId>,
     number_of_faces: u32,
+    rank_list: Vec<u32>,
     parent_list: Vec<Option<Component>>,
     sides: Vec<Side>,
     starts: Vec<u32>,
@@ -49,6 +51,7 @@ impl Faces {
         ensures as_many { IfOk result (λ f. length f.faces ≡ length (half_edges_of graph.now.edges)) }
         ensures faces { IfOk result (λ f. AreFaces graph.now.edges f.faces) }
         ensures count { IfOk result (λ f. IsFaceCount f.faces f.count) }
+        ensures ranks { IfOk result (λ f. AreRanks graph.now.edges f.faces f.ranks) }
         ensures parents { IfOk result (λ f. AreParents graph.now.edges graph.now.marks f.parents) }
         ensures outer_cycles { IfOk result (λ f. AreOuterCycles graph.now f) }
         ensures mark_sides { IfOk result (λ f. HasMarkSides graph.now.edges) }
@@ -59,10 +62,15 @@ impl Faces {
         let cycles = cycles_of(alloc, graph, &marks)?;
         let outer = outer_faces(alloc, &cycles.cycle_of, &sights)?;
         let inner = (cycles.starts.len() - 1 - marks.len()) as u32;
+        let number_of_faces = inner + 1;
+        let face_list = faces_of(alloc, &cycles.cycle_of, &outer)?;
+        let parent_list = parents_of(alloc, graph, &sights)?;
+        let rank_list = ranks_of(alloc, graph, &face_list, number_of_faces)?;
         Ok(Faces {
-            face_list: faces_of(alloc, &cycles.cycle_of, &outer)?,
-            number_of_faces: inner + 1,
-            parent_list: parents_of(alloc, graph, &sights)?,
+            face_list,
+            number_of_faces,
+            rank_list,
+            parent_list,
             sides: cycles.sides,
             starts: cycles.starts,
         })
@@ -88,6 +96,14 @@ impl Faces {
         ensures { result ≡ self.now.count }
     {
         self.number_of_faces
+    }
+
+    /// The rank of a face: the fewest edges to be crossed from it to the outer one.
+    pub fn rank(&self, f: FaceId) -> u32
+        requires { f.0 < self.now.count }
+        ensures { slice_get self.now.ranks f.0 ≡ Some result }
+    {
+        self.rank_list[f.0 as usize]
     }
 
     /// The mark side of a component: of the half-edges that leave its mark vertex, the one that is met last, counterclockwise from west.

@@ -4,3 +4,5 @@ pub mod OddCounts
 pub mod ByComponent
 pub mod RowLists
 pub mod RowLines
+pub mod PartLines
+pub mod PartFaces

@@ -5,8 +5,11 @@
 #![tactic(auto)]
 
 pub mod counts;
+pub mod parts;
 pub mod reporting;
 pub mod rows;
+pub mod shown;
 pub mod text;
 
 pub use reporting::report;
+pub use shown::shown_byte_of;

@@ -1,9 +1,11 @@
 //! The text of the report.
 ghost use Rattle.std.specs.Prelude.{◌≡◌, ◌++◌, decimal, OnOk};
-ghost use Rattle.pierce_report.specs.Report.{row_text, rows_text};
+ghost use Rattle.pierce_report.specs.Shown.{shown};
+ghost use Rattle.pierce_report.specs.Report.{row_text, rows_text, part_text};
 ghost use Rattle.pierce_report.specs.Rows.{row_of, rows_of, totals_text, verdict_text};
 
 use crate::rows::Numbers;
+use crate::shown::shown_byte_of;
 use itoa::Buffer;
 use nest_base::{OutOfMemory, Text};
 
@@ -36,6 +38,26 @@ pub fn put_rows(rows: &[Numbers], out: &mut Text) -> Result<(), OutOfMemory>
         put_row(k + 1, row, out)?;
     }
     Ok(())
+}
+
+/// Appends a text, each byte that doesn't print as it is as `?`.
+fn put_shown(text: &[u8], out: &mut Text) -> Result<(), OutOfMemory>
+    ensures { OnOk result (out.new ≡ out.old ++ shown text.now) }
+{
+    for byte in text {
+        out.push(shown_byte_of(*byte))?;
+    }
+    Ok(())
+}
+
+/// Appends the line of a part with this name and this rank.
+pub fn put_part(name: &[u8], rank: u32, out: &mut Text) -> Result<(), OutOfMemory>
+    ensures { OnOk result (out.new ≡ out.old ++ part_text (record { text = name.now; rank = rank })) }
+{
+    out.append(b"part ")?;
+    put_shown(name, out)?;
+    put_number(b" rank ", rank as usize, out)?;
+    out.push(b'\n')
 }
 
 /// Appends the line of so many pierces in all, and the sum of the bounds.

@@ -14,12 +14,12 @@ use half_edges::PlaneGraph;
 use nest_base::{Component, OutOfMemory, Point, Side};
 use std::alloc::Global;
 
-/// A drawing; by number of a component its parent's, and how many outer sides it has; and how many faces there are.
+/// A drawing; by number of a component its parent's, and how many outer sides it has; and by rank how many faces have it.
 struct Drawing {
     sample: Sample,
     parents: &'static [Option<u32>],
     outer: &'static [usize],
-    faces: u32,
+    ranks: &'static [usize],
 }
 
 const DRAWINGS: [Drawing; 20] = [
@@ -27,121 +27,121 @@ const DRAWINGS: [Drawing; 20] = [
         sample: LINE,
         parents: &[None],
         outer: &[2],
-        faces: 1,
+        ranks: &[1],
     },
     Drawing {
         sample: SQUARE,
         parents: &[None],
         outer: &[4],
-        faces: 2,
+        ranks: &[1, 1],
     },
     Drawing {
         sample: SQUARE_IN_FOUR,
         parents: &[None],
         outer: &[8],
-        faces: 5,
+        ranks: &[1, 4],
     },
     Drawing {
         sample: TAILED_SQUARE,
         parents: &[None],
         outer: &[6],
-        faces: 2,
+        ranks: &[1, 1],
     },
     Drawing {
         sample: SQUARES_ASIDE,
         parents: &[None, None],
         outer: &[4, 4],
-        faces: 3,
+        ranks: &[1, 2],
     },
     Drawing {
         sample: FIVE_NESTED,
         parents: &[None, Some(0), Some(1), Some(2), Some(3)],
         outer: &[4, 4, 4, 4, 4],
-        faces: 6,
+        ranks: &[1, 1, 1, 1, 1, 1],
     },
     Drawing {
         sample: AT_UPPER_END,
         parents: &[None, None],
         outer: &[2, 2],
-        faces: 1,
+        ranks: &[1],
     },
     Drawing {
         sample: AT_LOWER_END,
         parents: &[None, Some(0)],
         outer: &[2, 2],
-        faces: 1,
+        ranks: &[1],
     },
     Drawing {
         sample: AT_LEVEL_LINE,
         parents: &[None, None],
         outer: &[2, 2],
-        faces: 1,
+        ranks: &[1],
     },
     Drawing {
         sample: AT_BEND,
         parents: &[None, Some(0)],
         outer: &[4, 2],
-        faces: 1,
+        ranks: &[1],
     },
     Drawing {
         sample: AT_FORK,
         parents: &[None, Some(0)],
         outer: &[6, 2],
-        faces: 1,
+        ranks: &[1],
     },
     Drawing {
         sample: NEARER_AT_HEIGHT,
         parents: &[None, Some(0), Some(1)],
         outer: &[2, 2, 2],
-        faces: 1,
+        ranks: &[1],
     },
     Drawing {
         sample: EAST_OF_MARK,
         parents: &[None, None],
         outer: &[2, 2],
-        faces: 1,
+        ranks: &[1],
     },
     Drawing {
         sample: LINE_IN_SQUARES,
         parents: &[None, Some(0), Some(1)],
         outer: &[4, 4, 2],
-        faces: 3,
+        ranks: &[1, 1, 1],
     },
     Drawing {
         sample: TWO_ABOVE,
         parents: &[None, None],
         outer: &[2, 2],
-        faces: 1,
+        ranks: &[1],
     },
     Drawing {
         sample: RANGE_ENDS,
         parents: &[None, None, Some(1)],
         outer: &[2, 2, 2],
-        faces: 1,
+        ranks: &[1],
     },
     Drawing {
         sample: TWO_IN_SQUARE,
         parents: &[None, Some(0), Some(1)],
         outer: &[4, 4, 4],
-        faces: 4,
+        ranks: &[1, 1, 2],
     },
     Drawing {
         sample: TWO_FAMILIES,
         parents: &[None, Some(0), None, Some(2), Some(3)],
         outer: &[4, 4, 4, 4, 4],
-        faces: 6,
+        ranks: &[1, 2, 2, 1],
     },
     Drawing {
         sample: BETWEEN_ARMS,
         parents: &[None, Some(0)],
         outer: &[8, 4],
-        faces: 3,
+        ranks: &[1, 2],
     },
     Drawing {
         sample: LEVEL_SQUARES,
         parents: &[None, None],
         outer: &[4, 4],
-        faces: 3,
+        ranks: &[1, 2],
     },
 ];
 
@@ -210,6 +210,27 @@ fn outer_sides_go_round(graph: &PlaneGraph, faces: &Faces, c: Component) -> Resu
     Ok(next == mark)
 }
 
+/// How many faces have this rank.
+fn faces_of_rank(faces: &Faces, rank: usize) -> usize {
+    (0..faces.face_count())
+        .filter(|f| faces.rank(FaceId(*f)) as usize == rank)
+        .count()
+}
+
+/// An error where faces lie at other depths than they were drawn.
+fn ensure_ranked(drawing: &Drawing, faces: &Faces) -> Result<()> {
+    for (rank, count) in drawing.ranks.iter().enumerate() {
+        ensure!(
+            faces_of_rank(faces, rank) == *count,
+            "{}: rank {rank}",
+            drawing.sample.name
+        );
+    }
+    let deeper = faces_of_rank(faces, drawing.ranks.len());
+    ensure!(deeper == 0, "{}: too deep", drawing.sample.name);
+    Ok(())
+}
+
 /// An error where a component doesn't lie as it was drawn.
 fn ensure_as_drawn(drawing: &Drawing, graph: &PlaneGraph, faces: &Faces) -> Result<()>
     requires as_many { length faces.now.parents ≡ length graph.now.marks }
@@ -244,11 +265,7 @@ fn faces_and_parents_of_small_drawings(rt: HostRuntime) -> Result<()> {
         let graph = PlaneGraph::build(rt.alloc(), &edges)?;
         let faces = Faces::build(rt.alloc(), &graph, &edges)?;
         ensure_as_drawn(drawing, &graph, &faces)?;
-        ensure!(
-            faces.face_count() == drawing.faces,
-            "{}",
-            drawing.sample.name
-        );
+        ensure_ranked(drawing, &faces)?;
         ensure!(
             graph.component_count() as usize == drawing.parents.len(),
             "{}",

@@ -8,11 +8,8 @@ use Rattle.face_nesting.proofs.Prefixes.{AllZip-one_more}
 use Rattle.face_nesting.proofs.SeenSoFar.{sight_found, vertex_within}
 use Rattle.face_nesting.proofs.sights.sights_of.Goals as goal
 
-pub seen_from-requires-clause-few : goal.seen_from-requires-clause-few
-seen_from-requires-clause-few c = rw c.requires.edges c.component_count-c-end.ensures.plane_graph.few
-
-pub seen_from-requires-clause-edges_within : goal.seen_from-requires-clause-edges_within
-seen_from-requires-clause-edges_within c = rw c.requires.edges c.component_count-c-end.ensures.plane_graph.within
+pub seen_from-requires-clause-can_count : goal.seen_from-requires-clause-can_count
+seen_from-requires-clause-can_count c = rw c.requires.edges (c.component_count-c-end.ensures.plane_graph.few, c.component_count-c-end.ensures.plane_graph.within)
 
 pub seen_from-requires-clause-p_within : goal.seen_from-requires-clause-p_within
 seen_from-requires-clause-p_within c =

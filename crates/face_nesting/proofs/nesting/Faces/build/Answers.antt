@@ -1,11 +1,12 @@
-use Rattle.std.proofs.Common.{arith, ◌≡◌, ◌<◌, ◌-◌, ◌+◌, ℕ, length, map, sym, subst}
-use Rattle.std.specs.Prelude.{Some, option_map}
+use Rattle.std.proofs.Common.{arith, ◌≡◌, ◌<◌, ◌-◌, ◌+◌, ℕ, length, map, sym, ap, subst, ◌∙◌}
+use Rattle.std.specs.Prelude.{Some, option_map, All}
 use Rattle.std.proofs.lemmas.List.{length-map}
 use Rattle.nest_base.specs.declared.numbers.Side.{Side}
 use Rattle.plate_nesting.proofs.Nearest.{one_is_seen}
 use Rattle.half_edges.specs.Numbers.{half_edges_of}
 use Rattle.half_edges.specs.Graph.{rotations_of, origin_of, component_of}
 use Rattle.face_nesting.specs.declared.cycles.CycleId.{CycleId}
+use Rattle.face_nesting.specs.declared.numbering.FaceId.{FaceId}
 use Rattle.face_nesting.specs.Cycles.{OnOneCycle}
 use Rattle.face_nesting.specs.Numbering.{cycle_numbers_of, face_numbers_of, sight_numbers_of, number_seen, face_of_cycle, AreOuterFaces}
 use Rattle.nest_base.specs.NumberLists.{parent_numbers, side_numbers}
@@ -18,9 +19,11 @@ use Rattle.face_nesting.proofs.FoundCycles.{AreFound, as_many_mark_sides, as_man
 use Rattle.face_nesting.proofs.NestingLists.{enough_cycles, starts_of_cycles, cycles_within, is_nesting}
 use Rattle.face_nesting.proofs.SameFaces.{are_faces}
 use Rattle.face_nesting.proofs.FaceCounts.{is_face_count}
+use Rattle.face_nesting.proofs.FaceRanks.{are_ranks}
+use Rattle.face_nesting.proofs.KnownGraph.{few_sides}
 use Rattle.face_nesting.proofs.Parents.{are_parents}
 use Rattle.face_nesting.proofs.OuterCycles.{outer_cycle_at}
-use Rattle.face_nesting.proofs.nesting.Faces.build.Goals.{After-len-2, In_ok-cycles, In_ok-outer, In_ok-faces_of, In_ok-parents_of}
+use Rattle.face_nesting.proofs.nesting.Faces.build.Goals.{After-len-2, In_ok-cycles, In_ok-outer, In_ok-face_list, In_ok-parent_list}
 use Rattle.face_nesting.proofs.nesting.Faces.build.Goals as goal
 
 -- what is found of the graph
@@ -51,13 +54,20 @@ count_is : (c : After-len-2) → c.len.result - 1 - c.len-2.result + 1 ≡ lengt
 count_is c = omega (arith, c.len.ensures, c.len-2.ensures, length-map c.in_ok-marks.marks.items (λ (s : Side). s.0))
 
 -- the numbers of faces, and of parents
-face_list : (c : In_ok-faces_of) → face_numbers_of c.in_ok-faces_of.field-0.items ≡
+faces_are : (c : In_ok-face_list) → face_numbers_of c.in_ok-face_list.face_list.items ≡
     map (face_of_cycle (length c.in_ok-outer.outer.items) (face_numbers_of c.in_ok-outer.outer.items)) (cycle_numbers_of c.in_ok-cycles.cycles.cycle_of.items)
-face_list c = rw (c.deref-4.ensures.value, c.deref-5.ensures.value) at c.in_ok-faces_of.ensures
+faces_are c = rw (c.deref-4.ensures.value, c.deref-5.ensures.value) at c.in_ok-face_list.ensures
 
-parent_list : (c : In_ok-parents_of) → parent_numbers c.in_ok-parents_of.field-0.items ≡
+-- one for each half-edge
+faces_many : (c : In_ok-face_list) → length (cycle_numbers_of c.in_ok-cycles.cycles.cycle_of.items) ≡ length (half_edges_of c.args.graph.now.edges) →
+    length (face_numbers_of c.in_ok-face_list.face_list.items) ≡ length (half_edges_of c.args.graph.now.edges)
+faces_many c many =
+    let numbers = face_of_cycle (length c.in_ok-outer.outer.items) (face_numbers_of c.in_ok-outer.outer.items) in
+    ap length (faces_are c) ∙ length-map (cycle_numbers_of c.in_ok-cycles.cycles.cycle_of.items) numbers ∙ many
+
+parents_are : (c : In_ok-parent_list) → parent_numbers c.in_ok-parent_list.parent_list.items ≡
     map (option_map (λ s. component_of c.args.graph.now (origin_of c.args.graph.now s))) (sight_numbers_of c.in_ok-sights.sights.items)
-parent_list c = rw c.deref-6.ensures.value at c.in_ok-parents_of.ensures
+parents_are c = rw c.deref-6.ensures.value at c.in_ok-parent_list.ensures
 
 pub cycles_of-requires-clause-within : goal.cycles_of-requires-clause-within
 cycles_of-requires-clause-within c =
@@ -110,9 +120,9 @@ overflow_cast-inner c =
     let all = found is.In_ok-cycles in
     omega (arith, c.len.ensures, starts_of_cycles all, cycles_within all)
 
-pub overflow_add-result : goal.overflow_add-result
-overflow_add-result c =
-    let is = goal.at.overflow_add-result c in
+pub overflow_add-number_of_faces : goal.overflow_add-number_of_faces
+overflow_add-number_of_faces c =
+    let is = goal.at.overflow_add-number_of_faces c in
     let all = found is.In_ok-cycles in
     omega (arith, c.len.ensures, starts_of_cycles all, cycles_within all)
 
@@ -132,31 +142,63 @@ parents_of-requires c =
     let below = seen_sides (found is.In_ok-cycles) in
     record { sides = rw c.deref-6.ensures.value (All-from_map (λ sight. (s : ℕ) → sight ≡ Some s → s < length (half_edges_of c.args.graph.now.edges)) number_seen c.in_ok-sights.sights.items below) }
 
+pub ranks_of-requires-clause-few : goal.ranks_of-requires-clause-few
+ranks_of-requires-clause-few c =
+    let is = goal.at.ranks_of-requires-clause-few c in
+    let all = found is.In_ok-cycles in
+    let faces = c.in_ok-face_list.face_list.items in
+    omega (arith, c.deref-7.ensures.len, length-map faces (λ (f : FaceId). f.0), faces_many is.In_ok-face_list all.are_cycles.are_cycles.as_many, few_sides all.known)
+
+pub ranks_of-requires-clause-fits : goal.ranks_of-requires-clause-fits
+ranks_of-requires-clause-fits c =
+    let is = goal.at.ranks_of-requires-clause-fits c in
+    let all = found is.In_ok-cycles in
+    omega (arith, c.len.ensures, starts_of_cycles all, cycles_within all)
+
+pub ranks_of-requires-clause-below : goal.ranks_of-requires-clause-below
+ranks_of-requires-clause-below c =
+    let is = goal.at.ranks_of-requires-clause-below c in
+    let all = found is.In_ok-cycles in
+    let count = c.len.result - 1 - c.len-2.result + 1 in
+    let counted = is_face_count all (length c.in_ok-outer.outer.items) (face_numbers_of c.in_ok-outer.outer.items) (as_many_components is.In_ok-outer (as_many_sights all)) (are_outer is.In_ok-outer) count (count_is is.After-len-2) in
+    let below = subst (All (λ f. f < count)) (sym (faces_are is.In_ok-face_list)) counted.below in
+    rw c.deref-7.ensures.value (All-from_map (λ f. f < count) (λ (f : FaceId). f.0) c.in_ok-face_list.face_list.items below)
+
 pub invariant_of-result : goal.invariant_of-result
 invariant_of-result c =
     let is = goal.at.invariant_of-result c in
     let all = found is.In_ok-cycles in
-    is_nesting all (face_numbers_of c.in_ok-faces_of.field-0.items) (c.len.result - 1 - c.len-2.result + 1) (parent_numbers c.in_ok-parents_of.field-0.items) (count_is is.After-len-2)
-    (rw (parent_list is.In_ok-parents_of) (are_parents all).as_many)
+    is_nesting all (face_numbers_of c.in_ok-face_list.face_list.items) (c.len.result - 1 - c.len-2.result + 1) c.in_ok-rank_list.rank_list.items (parent_numbers c.in_ok-parent_list.parent_list.items)
+    c.in_ok-rank_list.ensures.as_many (count_is is.After-len-2)
+    (rw (parents_are is.In_ok-parent_list) (are_parents all).as_many)
 
 pub returns-clause-faces : goal.returns-clause-faces
 returns-clause-faces c =
     let is = goal.at.returns-clause-faces c in
     let all = found is.In_ok-cycles in
     let faces = are_faces all (length c.in_ok-outer.outer.items) (face_numbers_of c.in_ok-outer.outer.items) (as_many_components is.In_ok-outer (as_many_sights all)) (are_outer is.In_ok-outer) in
-    subst (AreFaces c.args.graph.now.edges) (sym (face_list is.In_ok-faces_of)) faces
+    subst (AreFaces c.args.graph.now.edges) (sym (faces_are is.In_ok-face_list)) faces
 
 pub returns-clause-count : goal.returns-clause-count
 returns-clause-count c =
     let is = goal.at.returns-clause-count c in
     let all = found is.In_ok-cycles in
     let counted = is_face_count all (length c.in_ok-outer.outer.items) (face_numbers_of c.in_ok-outer.outer.items) (as_many_components is.In_ok-outer (as_many_sights all)) (are_outer is.In_ok-outer) (c.len.result - 1 - c.len-2.result + 1) (count_is is.After-len-2) in
-    subst (λ faces. IsFaceCount faces (c.len.result - 1 - c.len-2.result + 1)) (sym (face_list is.In_ok-faces_of)) counted
+    subst (λ faces. IsFaceCount faces (c.len.result - 1 - c.len-2.result + 1)) (sym (faces_are is.In_ok-face_list)) counted
+
+pub returns-clause-ranks : goal.returns-clause-ranks
+returns-clause-ranks c =
+    let is = goal.at.returns-clause-ranks c in
+    let all = found is.In_ok-cycles in
+    let found_ranks = c.in_ok-rank_list.ensures in
+    let sides = has_mark_sides all.known (side_numbers c.in_ok-marks.marks.items) c.in_ok-marks.ensures in
+    are_ranks (face_numbers_of c.in_ok-face_list.face_list.items) c.in_ok-rank_list.rank_list.items all.known sides (faces_many is.In_ok-face_list all.are_cycles.are_cycles.as_many)
+    (returns-clause-faces c) found_ranks.outer (rw c.deref-7.ensures.value at found_ranks.distances)
 
 pub returns-clause-parents : goal.returns-clause-parents
 returns-clause-parents c =
     let is = goal.at.returns-clause-parents c in
-    subst (AreParents c.args.graph.now.edges c.args.graph.now.marks) (sym (parent_list is.In_ok-parents_of)) (are_parents (found is.In_ok-cycles))
+    subst (AreParents c.args.graph.now.edges c.args.graph.now.marks) (sym (parents_are is.In_ok-parent_list)) (are_parents (found is.In_ok-cycles))
 
 pub returns-clause-outer_cycles : goal.returns-clause-outer_cycles
 returns-clause-outer_cycles c =

@@ -1,0 +1,5 @@
+pub mod FacesAt
+mod FirstFaults
+mod NamesByFace
+mod NameReads
+mod Scrap
