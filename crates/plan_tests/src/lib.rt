@@ -15,6 +15,4 @@ mod codes;
 #[cfg(test)]
 mod covers;
 #[cfg(test)]
-mod reports;
-#[cfg(test)]
 mod routes;

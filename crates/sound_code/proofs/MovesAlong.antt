@@ -1,8 +1,10 @@
 -- Lit moves and the edges that they go along.
-use Rattle.std.proofs.Common.{◌≡◌, ℕ, Bool, true, false, cond, List, [], ◌∷◌, length, map, refl, ◌∙◌}
+use Rattle.std.proofs.Common.{◌≡◌, ℕ, Bool, true, false, cond, List, [], ◌∷◌, length, map, refl, ap, sym, ◌∙◌}
 use Rattle.std.specs.Prelude.{IsTrue}
 use Rattle.std.specs.List.{AllByRecursion}
 use Rattle.std.proofs.lemmas.Bool.{both_ways}
+use Rattle.std.proofs.lemmas.List.{length-map}
+use Rattle.std.proofs.lemmas.List.Elements.{filter_passes, recursion_from_All}
 use Rattle.nest_base.specs.declared.places.Edge.{Edge}
 use Rattle.nest_base.specs.Plane.{HalfEdge}
 use Rattle.nest_base.specs.Selection.{Selects, HasCount}
@@ -10,56 +12,57 @@ use Rattle.nest_base.specs.Selection.Selects.{none, taken, passed}
 use Rattle.plate_sides.specs.HalfEdges.{IsHalfEdge, IsHalfEdgeOf}
 use Rattle.code_moves.specs.declared.moves.Move.{Move}
 use Rattle.code_moves.specs.Moves.{way, lit_moves}
-use Rattle.sound_code.specs.Sound.{IsEdgeMove, IsMoveAlong}
+use Rattle.sound_code.specs.Sound.{IsMoveAlong, AreBurns}
 
 -- what is lit of the move m and the moves behind it
-abbrev lit_of : Bool → Move → List Move → List Move
+abbrev pub lit_of : Bool → Move → List Move → List Move
 lit_of lit m moves = cond lit (m ∷ lit_moves moves) (lit_moves moves)
 
--- a lit move is an edge move
-abbrev pub IsEdgeMoveIfLit : List Edge → Move → Type 0
-IsEdgeMoveIfLit edges m = IsTrue m.lit → IsEdgeMove edges m
+abbrev pub IsLit : Move → Type 0
+IsLit m = IsTrue m.lit
 
-edge_step : (edges : List Edge) (m : Move) (moves : List Move) (lit : Bool) → m.lit ≡ lit → AllByRecursion (IsHalfEdge edges) (map way (lit_of lit m moves)) →
-    (AllByRecursion (IsHalfEdge edges) (map way (lit_moves moves)) → AllByRecursion (IsEdgeMoveIfLit edges) moves) →
-    AllByRecursion (IsEdgeMoveIfLit edges) (m ∷ moves)
-edge_step edges m moves false is h more = (λ lit. absurd (both_ways m.lit is lit), more h)
-edge_step edges m moves true is h more = (λ lit. (lit, h.0), more h.1)
+pub lit_moves_are_lit : (moves : List Move) → AllByRecursion IsLit (lit_moves moves)
+lit_moves_are_lit moves = recursion_from_All IsLit (lit_moves moves) (filter_passes (λ (m : Move). m.lit) moves)
 
--- where all that is burnt are half-edges of the edges, each lit move is an edge move
-pub edge_moves : (edges : List Edge) (moves : List Move) → AllByRecursion (IsHalfEdge edges) (map way (lit_moves moves)) → AllByRecursion (IsEdgeMoveIfLit edges) moves
-edge_moves edges [] h = tt
-edge_moves edges (m ∷ moves) h = edge_step edges m moves m.lit refl h (edge_moves edges moves)
+-- what only lit moves have is selected from all moves as from the lit ones
+module _ (P : Move → Type 0) (only_lit : (m : Move) → P m → IsLit m) where
+  lit_step : (m : Move) (moves some : List Move) (lit : Bool) → m.lit ≡ lit → Selects P (lit_of lit m moves) some →
+      ((some : List Move) → Selects P (lit_moves moves) some → Selects P moves some) → Selects P (m ∷ moves) some
+  lit_step m moves some false is h more = passed (λ p. both_ways m.lit is (only_lit m p)) (more some h)
+  lit_step m moves some true is (taken {ys} p h) more = taken p (more ys h)
+  lit_step m moves some true is (passed not_p h) more = passed not_p (more some h)
 
-selects_step : (edges : List Edge) (m : Move) (moves : List Move) (lit : Bool) → m.lit ≡ lit → IsEdgeMoveIfLit edges m → Selects (IsEdgeMove edges) moves (lit_moves moves) →
-    Selects (IsEdgeMove edges) (m ∷ moves) (lit_of lit m moves)
-selects_step edges m moves false is on_edge rest = passed (λ edge_move. both_ways m.lit is edge_move.0) rest
-selects_step edges m moves true is on_edge rest = taken (on_edge is) rest
+  pub from_lit : (moves some : List Move) → Selects P (lit_moves moves) some → Selects P moves some
+  from_lit [] some h = h
+  from_lit (m ∷ moves) some h = lit_step m moves some m.lit refl h (from_lit moves)
 
--- where each lit move is an edge move, these are the lit moves
-pub edge_moves_are_lit : (edges : List Edge) (moves : List Move) → AllByRecursion (IsEdgeMoveIfLit edges) moves → Selects (IsEdgeMove edges) moves (lit_moves moves)
-edge_moves_are_lit edges [] h = none
-edge_moves_are_lit edges (m ∷ moves) h = selects_step edges m moves m.lit refl h.0 (edge_moves_are_lit edges moves h.1)
+-- the lit moves whose ways are selected
+by_ways : (P : HalfEdge → Type 0) (lit : List Move) (ways : List HalfEdge) → AllByRecursion IsLit lit → Selects P (map way lit) ways →
+    (some : List Move) × Selects (λ (m : Move). IsLit m × P (way m)) lit some × (ways ≡ map way some)
+by_ways P [] [] are none = ([], none, refl)
+by_ways P [] (h ∷ ways) are selected = elim selected [ ]
+by_ways P (m ∷ lit) ways are (taken {ys} p h) = let rest = by_ways P lit ys are.1 h in (m ∷ rest.0, taken (are.0, p) rest.1, ap (λ k. way m ∷ k) rest.2)
+by_ways P (m ∷ lit) ways are (passed not_p h) = let rest = by_ways P lit ways are.1 h in (rest.0, passed (λ p. not_p p.1) rest.1, rest.2)
 
--- the moves along e, as many as the half-edges of e that are selected here
-abbrev AreAlong : Edge → List Move → List HalfEdge → Type 0
-AreAlong e moves burns = HasCount (IsMoveAlong e) moves (length burns)
+-- the moves whose ways are selected from those of the lit moves
+selected : (P : HalfEdge → Type 0) (moves : List Move) (ways : List HalfEdge) → Selects P (map way (lit_moves moves)) ways →
+    (some : List Move) × Selects (λ (m : Move). IsLit m × P (way m)) moves some × (ways ≡ map way some)
+selected P moves ways h =
+    let found = by_ways P (lit_moves moves) ways (lit_moves_are_lit moves) h in
+    (found.0, from_lit (λ (m : Move). IsLit m × P (way m)) (λ m both. both.0) moves found.0 found.1, found.2)
 
-lit_step : (e : Edge) (m : Move) (moves : List Move) (ways burns : List HalfEdge) → IsTrue m.lit → Selects (IsHalfEdgeOf e) (way m ∷ ways) burns →
-    ((burns : List HalfEdge) → Selects (IsHalfEdgeOf e) ways burns → AreAlong e moves burns) → AreAlong e (m ∷ moves) burns
-lit_step e m moves ways burns is (taken {ys} of_e h) more = let rest = more ys h in (m ∷ rest.0, taken (is, of_e) rest.1, cc)
-lit_step e m moves ways burns is (passed not_of_e h) more = let rest = more burns h in (rest.0, passed (λ along. not_of_e along.1) rest.1, rest.2)
+-- the half-edges among the ways of the lit moves are what the edge moves burn
+pub burns_are : (edges : List Edge) (moves : List Move) (burns : List HalfEdge) → Selects (IsHalfEdge edges) (map way (lit_moves moves)) burns → AreBurns edges moves burns
+burns_are edges moves burns h = selected (IsHalfEdge edges) moves burns h
 
-along_step : (e : Edge) (m : Move) (moves : List Move) (lit : Bool) → m.lit ≡ lit → (burns : List HalfEdge) → Selects (IsHalfEdgeOf e) (map way (lit_of lit m moves)) burns →
-    ((burns : List HalfEdge) → Selects (IsHalfEdgeOf e) (map way (lit_moves moves)) burns → AreAlong e moves burns) → AreAlong e (m ∷ moves) burns
-along_step e m moves false is burns h more = let rest = more burns h in (rest.0, passed (λ along. both_ways m.lit is along.0) rest.1, rest.2)
-along_step e m moves true is burns h more = lit_step e m moves (map way (lit_moves moves)) burns is h more
-
-along : (e : Edge) (moves : List Move) (burns : List HalfEdge) → Selects (IsHalfEdgeOf e) (map way (lit_moves moves)) burns → AreAlong e moves burns
-along e [] [] none = ([], none, refl)
-along e [] (h ∷ burns) selected = elim selected [ ]
-along e (m ∷ moves) burns h = along_step e m moves m.lit refl burns h (along e moves)
-
--- as many moves go along e as half-edges of e are burnt
+-- as many moves go along e as half-edges of e are among these ways
 pub count_along : (e : Edge) (moves : List Move) (n : ℕ) → HasCount (IsHalfEdgeOf e) (map way (lit_moves moves)) n → HasCount (IsMoveAlong e) moves n
-count_along e moves n (burns, h, are) = let found = along e moves burns h in (found.0, found.1, found.2 ∙ are)
+count_along e moves n (burns, h, are) =
+    let found = selected (IsHalfEdgeOf e) moves burns h in (found.0, found.1, sym (length-map found.0 way) ∙ sym (ap length found.2) ∙ are)
+
+-- what is selected among selected things is selected among all, where it is part of what they have
+pub selects_through : {X : Type 0} (P Q : X → Type 0) → ((x : X) → P x → Q x) → {xs ys zs : List X} → Selects Q xs ys → Selects P ys zs → Selects P xs zs
+selects_through P Q part none none = none
+selects_through P Q part (taken q h) (taken p k) = taken p (selects_through P Q part h k)
+selects_through P Q part (taken q h) (passed not_p k) = passed not_p (selects_through P Q part h k)
+selects_through P Q part (passed {x} not_q h) k = passed (λ p. not_q (part x p)) (selects_through P Q part h k)

@@ -1,13 +1,14 @@
 -- Lightings: what is burnt between one piercing of the plate and the next.
-use Rattle.std.specs.Prelude.{ℕ, if◌then◌else◌, List, [], ◌∷◌, map, IsTrue, Option, Some, None}
+use Rattle.std.specs.Prelude.{ℕ, if◌then◌else◌, List, [], ◌∷◌, map, Option, Some, None}
 use Rattle.std.specs.List.{AllZip}
 use Rattle.nest_base.specs.declared.places.Point.{Point}
 use Rattle.nest_base.specs.declared.places.Edge.{Edge}
 use Rattle.nest_base.specs.Plane.{HalfEdge}
-use Rattle.plate_sides.specs.HalfEdges.{IsHalfEdge}
 use Rattle.plate_sides.specs.Cover.{IsTrail, HasTrailsIn}
+use Rattle.plate_parts.specs.LeadIns.{AreFirstLeadIns}
 use Rattle.code_moves.specs.declared.moves.Move.{Move}
 use Rattle.code_moves.specs.Moves.{way, lit_moves}
+use Rattle.sound_code.specs.Sound.{IsLitOffEdges}
 
 -- m before the parts: at the front of the first one, or a part of its own where that one begins with a fresh move
 abbrev pub put_before : Move → List (List Move) → List (List Move)
@@ -20,14 +21,17 @@ abbrev pub cut_before_fresh : List Move → List (List Move)
 cut_before_fresh [] = []
 cut_before_fresh (m ∷ moves) = put_before m (cut_before_fresh moves)
 
--- a lit move that goes along no edge
-abbrev pub IsLitOffEdges : List Edge → Move → Type 0
-IsLitOffEdges edges m = IsTrue m.lit × (IsHalfEdge edges (way m) → ⊥)
-
 -- the start of a lead-in, or none, and a trail
 pub record Lighting : Type 0 where
   pub start : Option Point
   pub trail : List HalfEdge
+
+-- where the lead-ins of lightings start
+abbrev pub starts_of : List Lighting → List (Option Point)
+starts_of lightings = map (λ (l : Lighting). l.start) lightings
+
+abbrev pub lighting_trails : List Lighting → List (List HalfEdge)
+lighting_trails lightings = map (λ (l : Lighting). l.trail) lightings
 
 -- the lit moves from one piercing on, as a lighting: a trail of edges, behind a lead-in where the first move goes along no edge
 pub data IsLighting (edges : List Edge) : List Move → Lighting → Type 0 where
@@ -41,4 +45,14 @@ AreLightings edges moves lightings = AllZip (IsLighting edges) (cut_before_fresh
 
 -- n lightings have their trail in the component with this mark vertex
 abbrev pub HasPierces : List Edge → List Lighting → Point → ℕ → Type 0
-HasPierces edges lightings mark n = HasTrailsIn edges mark (map (λ (l : Lighting). l.trail) lightings) n
+HasPierces edges lightings mark n = HasTrailsIn edges mark (lighting_trails lightings) n
+
+-- the half-edge with which each trail begins
+abbrev pub first_sides : List (List HalfEdge) → List HalfEdge
+first_sides [] = []
+first_sides ([] ∷ trails) = first_sides trails
+first_sides ((s ∷ rest) ∷ trails) = s ∷ first_sides trails
+
+-- the lead-in of each lighting is the first try that is free, with all earlier lead-ins: it pierces on the line only where no try is
+abbrev pub HaveFirstLeadIns : List Edge → List Point → List Lighting → Type 0
+HaveFirstLeadIns edges names lightings = AreFirstLeadIns edges names [] (first_sides (lighting_trails lightings)) (starts_of lightings)

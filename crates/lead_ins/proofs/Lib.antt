@@ -1,0 +1,10 @@
+pub mod Angles
+pub mod Touching
+pub mod EdgeReads
+pub mod Scans
+pub mod Tried
+pub mod FirstFits
+pub mod FittingCorners
+pub mod Told
+pub mod GivenLeads
+pub mod CornersOf
