@@ -1,0 +1,9 @@
+pub mod Promises
+pub mod EvenDrawings
+pub mod PlannedOutputs
+pub mod RefusedNames
+pub mod RefusedOutputs
+pub mod Completeness
+pub mod KeptPromises
+pub mod Results
+pub mod PrintFaults

@@ -1,6 +1,0 @@
-pub mod Words
-pub mod Promise
-pub mod Outputs
-pub mod FaultText
-pub mod Statuses
-pub mod Reasons
