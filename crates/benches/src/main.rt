@@ -3,11 +3,13 @@
 //! - `benches decimals COUNT`, so many coordinates read: the sum of them, in micrometres;
 //! - `benches groups COUNT`, the pairs of so many small drawings read: how many pairs came;
 //! - `benches drawings COUNT`, a long drawing read so often: how many segments came;
+//! - `benches codes COUNT`, a long code read so often: how many moves came;
 //! - `benches splits KIND COUNT STEP`, a drawing taken to its edges, graph or faces: how many edges, vertices or faces there are.
 //!
 //! Without words it does a little of each. Nothing stands on it.
 #![tactic(auto)]
 
+mod codes;
 mod decimals;
 mod drawings;
 mod groups;
@@ -19,10 +21,11 @@ use std::alloc::Global;
 use std::env;
 
 /// A little of each.
-const LITTLE: [&[&str]; 4] = [
+const LITTLE: [&[&str]; 5] = [
     &["decimals", "1000"],
     &["groups", "3"],
     &["drawings", "1"],
+    &["codes", "1"],
     &["splits", "grid", "10", "faces"],
 ];
 
@@ -35,11 +38,12 @@ fn answer_to(alloc: Global, words: &[&str]) -> Result<String> {
             "{}",
             drawings::segments_of(alloc, count.parse()?)?
         )?,
+        ["codes", count] => format!(in alloc; "{}", codes::moves_of(alloc, count.parse()?)?)?,
         ["splits", kind, count, step] => {
             format!(in alloc; "{}", splits::count_of(alloc, kind, count.parse()?, step)?)?
         }
         _ => bail!(
-            "usage: benches decimals|groups|drawings COUNT, or benches splits KIND COUNT STEP"
+            "usage: benches decimals|groups|drawings|codes COUNT, or benches splits KIND COUNT STEP"
         ),
     };
     Ok(answer)
