@@ -13,8 +13,8 @@ use half_edges::PlaneGraph;
 use nest_base::{Edge, Point, Side};
 use plate_parts::Lead;
 
-/// The edge at place `k` of the edges.
-fn edge_at(graph: &PlaneGraph, k: u32) -> Edge
+/// The edge at place `k` of the edges of a graph.
+pub fn edge_at(graph: &PlaneGraph, k: u32) -> Edge
     requires few { length graph.now.edges ≤ most_edges }
     requires within { k < length graph.now.edges }
     ensures { slice_get graph.now.edges k ≡ Some result }

@@ -1,4 +1,4 @@
-//! Tests of plans, from the route of a component to the written code, by the drawings of `drawing_samples`.
+//! Tests of plans, from the route of a component to the written code and the verdict on it, by the drawings of `drawing_samples`.
 //!
 //! There is a module for each crate that is tested, and nothing else: no crate stands on this one. The tests aren't in the crates
 //! themselves, since a test is proved as all code is, and a crate with tests is proved twice, with and without them. Also, a graph
@@ -16,3 +16,5 @@ mod codes;
 mod covers;
 #[cfg(test)]
 mod routes;
+#[cfg(test)]
+mod verdicts;

@@ -1,7 +1,7 @@
 mod Trails
-mod FreeLeadIns
+pub mod FreeLeadIns
 mod Relighting
-mod MovesAlong
+pub mod MovesAlong
 mod LedTrails
 mod LedRuns
 pub mod SoundPlans

@@ -1,0 +1,5 @@
+pub mod Kinds
+pub mod Burning
+pub mod Verdicts
+pub mod Leads
+pub mod Laws
