@@ -23,7 +23,7 @@ use Rattle.nest_commands.specs.Statuses.{IsRefused, IsDecided, HasCause, NoFault
 use Rattle.nest_commands.specs.declared.status.Refusal.{Refusal}
 use Rattle.nest_commands.specs.declared.status.Refusal.TheVariants.{Reading, Splitting, Naming}
 use Rattle.nest_commands.specs.declared.status.Status.{Status}
-use Rattle.nest_commands.specs.declared.status.Status.TheVariants.{Done, Words, ReadFault, TooLong, Drawing, WriteFault, PrintFault, Memory}
+use Rattle.nest_commands.specs.declared.status.Status.TheVariants.{Done, Words, ReadFault, TooLong, Drawing, WriteFault, PrintFault, Memory, Code, Unsound}
 
 -- a drawing that is split isn't refused by splitting
 split_not_refused : (file : List ℕ) (e : SplitError) → IsSplitRefusal e (segments_of file) → e ≢ NoMemory → IsAccepted file → ⊥
@@ -40,13 +40,13 @@ named_not_refused file e edges cuts refused some (own, drawing) =
     let same : own ≡ edges = one_list (segments_of file) own edges drawing.cuts.split.are_edges cuts.split.are_edges in
     names_not_refused edges (names_of file) e (subst (λ (l : List Edge). AreDistinct l (places_of (names_of file))) same drawing.named) refused some
 
-refused_not_accepted : (file : List ℕ) (refusal : Refusal) → IsRefused file refusal → IsAccepted file → ⊥
+pub refused_not_accepted : (file : List ℕ) (refusal : Refusal) → IsRefused file refusal → IsAccepted file → ⊥
 refused_not_accepted file (Reading e) refused accepted = true≢false (ap is_some (sym refused.0 ∙ accepted.1.cuts.read))
 refused_not_accepted file (Splitting e) refused accepted = split_not_refused file e refused.1 refused.2 accepted
 refused_not_accepted file (Naming e) (edges, cuts, refused, some) accepted = named_not_refused file e edges cuts refused some accepted
 
 -- a count that rose is above itself later on too
-rose_later : (before now later : ℕ) → Rose before now → now ≤ later → Rose before later
+pub rose_later : (before now later : ℕ) → Rose before now → now ≤ later → Rose before later
 rose_later before now later rose after = omega (arith, rose, after)
 
 -- what each status says of an accepted drawing
@@ -63,6 +63,8 @@ by_status WriteFault input output old now new file command decided cause later n
 by_status PrintFault input output old now new file command decided cause later none small accepted =
     absurd (none.prints (rose_later old.print_faults now.print_faults new.print_faults cause later.prints))
 by_status Memory input output old now new file command decided cause later none small accepted = inr refl
+by_status (Code fault) input output old now new file command decided cause later none small accepted = absurd cause
+by_status (Unsound verdict) input output old now new file command decided cause later none small accepted = absurd cause
 
 pub complete : (status : Status) (input output : List ℕ) (old now new : Outside) (told : Told) → status ≢ Words → WhereTold told (IsDecided status) →
     HasCause status input output old now → Later now new → NoFaultRose input output old new → WhereTold told (IsComplete status)

@@ -3,7 +3,15 @@ pub mod EvenDrawings
 pub mod PlannedOutputs
 pub mod RefusedNames
 pub mod RefusedOutputs
+pub mod JudgedCode
 pub mod Completeness
+pub mod JudgedRuns
 pub mod KeptPromises
 pub mod Results
 pub mod PrintFaults
+pub mod CircleVerdict
+pub mod CircleLightings
+pub mod CircleMarks
+pub mod CircleLines
+pub mod CircleTotals
+pub mod Circle

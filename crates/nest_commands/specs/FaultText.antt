@@ -1,4 +1,4 @@
--- The lines that are printed for refusals.
+-- The lines that are printed for refusals and for verdicts.
 use Rattle.std.specs.Prelude.{ℕ, List, ◌++◌, codes, decimal}
 use Rattle.std.specs.Fmt.{signed_decimal}
 use Rattle.micron_decimals.specs.Decimals.{micron_text}
@@ -11,6 +11,10 @@ use Rattle.dxf_entities.specs.declared.error.DrawingError.{DrawingError}
 use Rattle.dxf_entities.specs.declared.error.DrawingError.TheVariants.{Groups, NotANumber, TooFar, Missing, Unsupported, TooMany, Nothing, OutOfMemory}
 use Rattle.segment_split.specs.declared.splitting.SplitError.{SplitError}
 use Rattle.segment_split.specs.declared.splitting.SplitError.TheVariants.{Crossing, TooManyPieces, OutOfMemory as NoMemory}
+use Rattle.code_moves.specs.declared.faults.CodeError.{CodeError}
+use Rattle.code_moves.specs.declared.faults.CodeError.TheVariants.{BadLine, UnknownWord, TooFar as PlaceTooFar, NoEnd, OutOfMemory as NoSpace}
+use Rattle.replay_check.specs.declared.verdict.Verdict.{Verdict}
+use Rattle.replay_check.specs.declared.verdict.Verdict.TheVariants.{Sound, OffDrawing, PartEdge, Twice, BadLead, Missed, Detached}
 use Rattle.part_scrap.specs.declared.error.PartError.{PartError}
 use Rattle.part_scrap.specs.declared.error.PartError.TheVariants.{OnLine, NamesOuter, TwoNames, OutOfMemory as NoRoom}
 
@@ -56,3 +60,26 @@ naming_text (OnLine line) = at_line (codes "refused E13") line (codes "name on a
 naming_text (NamesOuter line) = at_line (codes "refused E14") line (codes "name outside every part")
 naming_text (TwoNames first second) = codes "refused E15 lines " ++ decimal first ++ codes " and " ++ decimal second ++ codes " name one face"
 naming_text NoRoom = codes "out of memory"
+
+-- what is printed for code that can't be read, without the end of the line
+abbrev pub code_fault_text : CodeError → List ℕ
+code_fault_text (BadLine line) = at_line (codes "code") line (codes "bad line")
+code_fault_text (UnknownWord line) = at_line (codes "code") line (codes "unknown word")
+code_fault_text (PlaceTooFar line) = at_line (codes "code") line (codes "beyond the range")
+code_fault_text (NoEnd line) = at_line (codes "code") line (codes "end missing")
+code_fault_text NoSpace = codes "out of memory"
+
+-- what is printed for a verdict, without the end of the line
+abbrev pub judged_text : Verdict → List ℕ
+judged_text (Sound pierces) = codes "sound pierces " ++ decimal pierces
+judged_text (OffDrawing line) = at_line (codes "unsound") line (codes "off the drawing")
+judged_text (PartEdge line) = at_line (codes "unsound") line (codes "not one whole edge")
+judged_text (Twice line) = at_line (codes "unsound") line (codes "edge burnt twice")
+judged_text (BadLead line) = at_line (codes "unsound") line (codes "lead-in not free")
+judged_text (Missed low high) =
+    codes "unsound edge " ++ micron_text low.x ++ codes " " ++ micron_text low.y ++ codes " to " ++ micron_text high.x ++ codes " " ++ micron_text high.y ++ codes " not burnt"
+judged_text (Detached line) = at_line (codes "unsound") line (codes "detached")
+
+-- the line of sound code
+abbrev pub sound_text : ℕ → List ℕ
+sound_text pierces = judged_text (Sound pierces) ++ codes "\n"

@@ -3,5 +3,7 @@ pub mod Promise
 pub mod Outputs
 pub mod FaultText
 pub mod Statuses
+pub mod Replays
+pub mod Circle
 pub mod Reasons
 pub mod Runs

@@ -3,6 +3,8 @@ use Rattle.std.specs.Prelude.{◌≡◌, ◌≢◌, ◌⊎◌, ℕ, ◌<◌, ◌
 use Rattle.nest_base.specs.Limits.{most_bytes}
 use Rattle.cut_desk.specs.Outside.{Outside, Rose, SameHeld, IsPartlyWritten, IsPartlyPrinted, made_of, print_more}
 use Rattle.code_moves.specs.Meaning.{code_refusal_of, moves_of}
+use Rattle.code_moves.specs.declared.faults.CodeError.TheVariants.{OutOfMemory as NoSpace}
+use Rattle.replay_check.specs.Laws.{TellsFault}
 use Rattle.dxf_entities.specs.declared.error.DrawingError.TheVariants.{OutOfMemory}
 use Rattle.dxf_drawing.specs.Drawings.{segments_of, names_of, read_refusal_of}
 use Rattle.segment_split.specs.Splits.{IsSplitRefusal}
@@ -10,13 +12,13 @@ use Rattle.segment_split.specs.declared.splitting.SplitError.TheVariants.{OutOfM
 use Rattle.nest_base.specs.declared.places.Edge.{Edge}
 use Rattle.part_scrap.specs.Refusals.{IsPartRefusal}
 use Rattle.part_scrap.specs.declared.error.PartError.TheVariants.{OutOfMemory as NoRoom}
-use Rattle.nest_commands.specs.FaultText.{reading_text, splitting_text, naming_text}
+use Rattle.nest_commands.specs.FaultText.{reading_text, splitting_text, naming_text, code_fault_text, judged_text}
 use Rattle.nest_commands.specs.Outputs.{AreCutsOf, IsAccepted, IsOutput}
 use Rattle.nest_commands.specs.Promise.{IsOrderEnclosingPlan, IsFewestWhereEven}
 use Rattle.nest_commands.specs.declared.status.Refusal.{Refusal}
 use Rattle.nest_commands.specs.declared.status.Refusal.TheVariants.{Reading, Splitting, Naming}
 use Rattle.nest_commands.specs.declared.status.Status.{Status}
-use Rattle.nest_commands.specs.declared.status.Status.TheVariants.{Done, Words, ReadFault, TooLong, Drawing, WriteFault, PrintFault, Memory}
+use Rattle.nest_commands.specs.declared.status.Status.TheVariants.{Done, Words, ReadFault, TooLong, Drawing, WriteFault, PrintFault, Memory, Code, Unsound}
 
 abbrev pub exit_code_of : Status → ℕ
 exit_code_of Done = 0
@@ -27,6 +29,8 @@ exit_code_of (Drawing refusal) = 4
 exit_code_of WriteFault = 5
 exit_code_of PrintFault = 5
 exit_code_of Memory = 6
+exit_code_of (Unsound verdict) = 7
+exit_code_of (Code fault) = 8
 
 -- the line of a refused drawing
 abbrev pub refusal_text : Refusal → List ℕ
@@ -37,13 +41,15 @@ refusal_text (Naming e) = naming_text e ++ codes "\n"
 -- the line that is printed for a status
 abbrev pub fault_text : Status → List ℕ
 fault_text Done = []
-fault_text Words = codes "usage: plan IN OUT\n"
+fault_text Words = codes "usage: plan IN OUT | replay IN CODE\n"
 fault_text ReadFault = codes "read fault\n"
 fault_text TooLong = codes "file too long\n"
 fault_text (Drawing refusal) = refusal_text refusal
 fault_text WriteFault = codes "write fault\n"
 fault_text PrintFault = []
 fault_text Memory = codes "out of memory\n"
+fault_text (Code fault) = code_fault_text fault ++ codes "\n"
+fault_text (Unsound verdict) = judged_text verdict ++ codes "\n"
 
 -- the drawing is refused, and for this reason first
 abbrev pub IsRefused : List ℕ → Refusal → Type 0
@@ -57,12 +63,14 @@ IsForMemory (Reading e) = e ≡ OutOfMemory
 IsForMemory (Splitting e) = e ≡ NoMemory
 IsForMemory (Naming e) = e ≡ NoRoom
 
--- a status holds no refusal for want of memory
+-- a status holds no refusal for want of memory, and calls no sound code unsound
 abbrev pub RefusesForNoMemory : Status → Type 0
 RefusesForNoMemory (Drawing refusal) = IsForMemory refusal → ⊥
+RefusesForNoMemory (Code fault) = fault ≢ NoSpace
+RefusesForNoMemory (Unsound verdict) = TellsFault verdict
 RefusesForNoMemory status = ⊤
 
--- what a status says of the drawing in IN: with every status but a read fault and want of memory it's decided
+-- what a status says of the drawing in IN that is to be planned: with every status but a read fault and want of memory it's decided
 abbrev pub IsDecided : Status → List ℕ → Type 0
 IsDecided TooLong file = most_bytes < length file
 IsDecided (Drawing refusal) file = (length file ≤ most_bytes) × IsRefused file refusal
@@ -71,14 +79,16 @@ IsDecided WriteFault file = (length file ≤ most_bytes) × IsAccepted file
 IsDecided PrintFault file = (length file ≤ most_bytes) × IsAccepted file
 IsDecided status file = ⊤
 
--- which count of faults rose
+-- which count of faults rose; a plan judges no code
 abbrev pub HasCause : Status → List ℕ → List ℕ → Outside → Outside → Type 0
 HasCause ReadFault input output old new = Rose (old.read_faults input) (new.read_faults input)
 HasCause WriteFault input output old new = Rose (old.write_faults output) (new.write_faults output)
 HasCause PrintFault input output old new = Rose old.print_faults new.print_faults
+HasCause (Code fault) input output old new = ⊥
+HasCause (Unsound verdict) input output old new = ⊥
 HasCause status input output old new = ⊤
 
--- none of the counts that the command's calls raise where they fail has risen
+-- none of the counts that the calls of `plan` raise where they fail has risen
 pub record NoFaultRose (input output : List ℕ) (old new : Outside) : Type 0 where
   pub reads : Rose (old.read_faults input) (new.read_faults input) → ⊥
   pub writes : Rose (old.write_faults output) (new.write_faults output) → ⊥

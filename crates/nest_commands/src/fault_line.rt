@@ -8,13 +8,14 @@ ghost use Rattle.nest_commands.specs.FaultText.{at_line, group_text, kind_text, 
 
 use crate::line::FaultLine;
 use crate::status::{Refusal, Status};
+use crate::verdict_line::{code_line, verdict_line};
 use dxf_drawing::{DrawingError, Kind};
 use dxf_groups::GroupError;
 use nest_base::Point;
 use part_scrap::PartError;
 use segment_split::SplitError;
 
-/// The line of a refusal at a line of the drawing, before the reason.
+/// The line of a refusal at a line of the drawing or of the code, before the reason.
 fn line_at(refused: &[u8], line: u32) -> FaultLine
     requires { length refused.now ≤ 16 }
     ensures text { (why : List ℕ) → result ++ why ≡ at_line refused.now line why }
@@ -27,8 +28,8 @@ fn line_at(refused: &[u8], line: u32) -> FaultLine
     text
 }
 
-/// The line of a refusal at a line of the drawing, with its reason.
-fn refusal_at(refused: &[u8], line: u32, why: &[u8]) -> FaultLine
+/// The line of a refusal at a line of the drawing or of the code, with its reason.
+pub(crate) fn refusal_at(refused: &[u8], line: u32, why: &[u8]) -> FaultLine
     requires refused { length refused.now ≤ 16 }
     requires why { length why.now ≤ 64 }
     ensures text { result ≡ at_line refused.now line why.now }
@@ -177,11 +178,13 @@ pub fn fault_line(status: &Status) -> FaultLine
 {
     match status {
         Status::Done | Status::PrintFault => FaultLine::of(b""),
-        Status::Words => FaultLine::of(b"usage: plan IN OUT\n"),
+        Status::Words => FaultLine::of(b"usage: plan IN OUT | replay IN CODE\n"),
         Status::ReadFault => FaultLine::of(b"read fault\n"),
         Status::TooLong => FaultLine::of(b"file too long\n"),
         Status::Drawing(refusal) => refused_line(refusal),
         Status::WriteFault => FaultLine::of(b"write fault\n"),
         Status::Memory => FaultLine::of(b"out of memory\n"),
+        Status::Code(fault) => code_line(*fault),
+        Status::Unsound(verdict) => verdict_line(*verdict),
     }
 }

@@ -55,7 +55,7 @@ impl From<OutOfMemory> for PlanError {
 }
 
 /// What the bytes of a drawing hold, or why they can't be read.
-fn drawing_of(alloc: Global, bytes: &[u8]) -> Result<Drawing, PlanError>
+pub(crate) fn drawing_of(alloc: Global, bytes: &[u8]) -> Result<Drawing, PlanError>
     requires few { length bytes.now ≤ most_bytes }
     ensures read { IfOk result (IsReadFrom bytes.now) }
     ensures refused { IfErr result (λ why. IsReason why bytes.now) }
@@ -68,7 +68,7 @@ fn drawing_of(alloc: Global, bytes: &[u8]) -> Result<Drawing, PlanError>
 }
 
 /// The edges of a drawing, or why it gives none.
-fn edges_of(alloc: Global, drawing: &Drawing) -> Result<Edges, PlanError>
+pub(crate) fn edges_of(alloc: Global, drawing: &Drawing) -> Result<Edges, PlanError>
     requires few { length drawing.now.segments ≤ most_segments }
     requires lengths { All HasLength drawing.now.segments }
     requires within { All (IsSegmentWithin range) drawing.now.segments }
@@ -87,7 +87,7 @@ fn edges_of(alloc: Global, drawing: &Drawing) -> Result<Edges, PlanError>
 }
 
 /// The parts that the names of a drawing name, or why they name none.
-fn parts_of(
+pub(crate) fn parts_of(
     alloc: Global,
     graph: &PlaneGraph,
     faces: &Faces,

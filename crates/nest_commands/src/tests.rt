@@ -5,6 +5,7 @@ mod names;
 mod nests;
 mod planned;
 mod refused;
+mod replays;
 mod shared;
 mod splits;
 
@@ -255,7 +256,7 @@ fn is_answered(alloc: Global, what: &str, drawing: &[u8], why: &str) -> Result<(
 #[test]
 fn other_words_print_the_usage_and_call_nothing_else(rt: HostRuntime) -> Result<()> {
     let alloc = rt.alloc();
-    let cases: [&[&str]; 11] = [
+    let cases: [&[&str]; 13] = [
         &[],
         &["plan"],
         &["plan", "a.dxf"],
@@ -266,7 +267,9 @@ fn other_words_print_the_usage_and_call_nothing_else(rt: HostRuntime) -> Result<
         &["plan", "-", "a.ngc"],
         &["plan", "a.dxf", "a.ngc", "b.ngc"],
         &["Plan", "a.dxf", "a.ngc"],
-        &["replay", "a.dxf", "a.ngc"],
+        &["replay", "a.dxf"],
+        &["replay", "a.dxf", "-o"],
+        &["Replay", "a.dxf", "a.ngc"],
     ];
     for texts in cases {
         let mut desk = desk_with(alloc, &square_file(alloc)?, ROOM)?;
@@ -274,7 +277,7 @@ fn other_words_print_the_usage_and_call_nothing_else(rt: HostRuntime) -> Result<
         desk.fail_call(2)?;
         let status = run(alloc, &words_of(alloc, texts)?, &mut desk);
         ensure!(matches!(status, Status::Words) && status.code() == 2);
-        ensure!(desk.printed() == b"usage: plan IN OUT\n".as_slice());
+        ensure!(desk.printed() == b"usage: plan IN OUT | replay IN CODE\n".as_slice());
         ensure!(desk.faults() == 0);
         let status = plan(alloc, &mut desk)?;
         ensure!(matches!(status, Status::ReadFault));

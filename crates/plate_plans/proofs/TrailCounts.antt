@@ -12,8 +12,8 @@ use Rattle.nest_base.specs.Selection.{none, taken, passed}
 use Rattle.nest_base.proofs.Lists.{Contains-head, Contains-later, Contains-cases, Contains-none, AllPairs-to_later, AllPairs-rest}
 use Rattle.nest_base.proofs.Orders.{IsMarkedBefore-irrefl}
 use Rattle.nest_base.proofs.Selections.{same_count}
+use Rattle.plate_sides.specs.HalfEdges.{IsHalfEdge}
 use Rattle.plate_sides.specs.Components.{IsMark, IsIn, AreMarks}
-use Rattle.plate_sides.specs.Nesting.{IsRound}
 use Rattle.plate_sides.specs.Cover.{IsTrail, HasTrailsIn}
 use Rattle.plate_nesting.proofs.Marks.{one_mark}
 use Rattle.plate_plans.specs.Undercutting.{TrailsAreCounted, CountsAddUp}
@@ -24,13 +24,14 @@ use Rattle.plate_plans.proofs.Tips.{trail_sides, whole_trail}
 abbrev AreCounts : List Edge → List (List HalfEdge) → List Point → List ℕ → Type 0
 AreCounts edges trails marks counts = AllZip (λ mark n. HasTrailsIn edges mark trails n) marks counts
 
-module _ {edges : List Edge} (round : IsRound edges) where
+-- where each half-edge lies in the component of some mark vertex
+module _ {edges : List Edge} (marked : (s : HalfEdge) → IsHalfEdge edges s → (mark : Point) × IsMark edges mark × IsIn edges mark s) where
   -- a trail lies in the component of its first half-edge
   lies_in : (trail : List HalfEdge) → IsTrail edges trail → (mark : Point) × IsMark edges mark × All (IsIn edges mark) trail
   lies_in [] is = absurd is
   lies_in (s ∷ rest) is =
       let first = Contains-head s rest in
-      let at = round.marked s (trail_sides edges (s ∷ rest) is s first) in
+      let at = marked s (trail_sides edges (s ∷ rest) is s first) in
       (at.0, at.1, whole_trail edges at.0 (s ∷ rest) is s first at.2)
 
   -- and in no other
@@ -143,7 +144,7 @@ module _ {edges : List Edge} (round : IsRound edges) where
         omega (arith, all.2, one_sum trails marks counts all.0 is all.1)
 
 pub trails_are_counted : TrailsAreCounted
-trails_are_counted edges trails round are mark is = trails_counted round trails are mark is
+trails_are_counted edges trails round are mark is = trails_counted round.marked trails are mark is
 
 pub counts_add_up : CountsAddUp
-counts_add_up edges trails round are marks counts are_marks is = counts_sum round are_marks trails counts are is
+counts_add_up edges trails round are marks counts are_marks is = counts_sum round.marked are_marks trails counts are is

@@ -82,7 +82,7 @@ none_undercuts edges in_order once mark is bound (some_odd {odd} are_odd some e)
 -- component by component
 pub none_undercuts_sum : NoneUndercutsSum
 none_undercuts_sum edges in_order once round marks bounds are_marks are_bounds trails cover =
-    let counted = all_counted round are_marks trails cover.are_trails in
+    let counted = all_counted round.marked are_marks trails cover.are_trails in
     omega (arith, add_up marks bounds counted.0 (λ mark c. (are_marks.are_all mark).0 c) are_bounds counted.1, counted.2)
   where
     add_up : (marks : List Point) (bounds counts : List ℕ) → ((mark : Point) → Contains marks mark → IsMark edges mark) →

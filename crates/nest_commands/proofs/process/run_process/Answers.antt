@@ -23,6 +23,16 @@ returns-in-Ok-clause-ends g c =
       even = c.run.ensures.even;
       output = c.run.ensures.output;
       files = c.run.ensures.files;
+      replay_decided = c.run.ensures.replay_decided;
+      replay_drawing = c.run.ensures.replay_drawing;
+      replay_absent = c.run.ensures.replay_absent;
+      replay_no_code = c.run.ensures.replay_no_code;
+      replay_cause = c.run.ensures.replay_cause;
+      replay_complete = c.run.ensures.replay_complete;
+      replay_sound = c.run.ensures.replay_sound;
+      replay_unsound = c.run.ensures.replay_unsound;
+      replay_output = c.run.ensures.replay_output;
+      replay_files = c.run.ensures.replay_files;
       no_files = c.run.ensures.no_files;
       line = c.run.ensures.line;
     } in
