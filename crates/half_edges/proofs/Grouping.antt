@@ -1,14 +1,14 @@
 -- The runs of a list: each place belongs to one, and one place more either goes on with the last run or begins one.
 use Rattle.std.proofs.Common.{arith, ◌≡◌, ◌≢◌, ◌⊎◌, inl, inr, ℕ, ◌+◌, ◌-◌, ◌<◌, ◌≤◌, List, [], ◌∷◌, ◌++◌, length, length-append, sym, ap, subst, ◌∙◌}
-use Rattle.std.specs.Prelude.{Some, slice_get, All, AllPairs, IfSome}
+use Rattle.std.specs.Prelude.{Some, slice_get, All, AllPairs, Contains, IfSome}
 use Rattle.std.proofs.lemmas.Bool.{cases_order, cases_eq}
 use Rattle.std.proofs.lemmas.Option.{slice_get_within}
 use Rattle.std.proofs.lemmas.List.Elements.{All-push, All-weaker}
 use Rattle.nest_base.specs.declared.places.Point.{Point}
 use Rattle.nest_base.specs.Order.{IsMarkedBefore}
 use Rattle.half_edges.specs.Runs.{IsInRun, AreAllRuns}
-use Rattle.nest_base.proofs.ListReads.{read_below, one_read, AllPairs-reads, AllPairs-pushed, read_pushed, read_kept, read_of_pushed, All-read}
-use Rattle.nest_base.proofs.Orders.{IsMarkedBefore-trans}
+use Rattle.nest_base.proofs.ListReads.{read_below, one_read, AllPairs-reads, AllPairs-pushed, read_pushed, read_kept, read_of_pushed, All-read, read_from_Contains}
+use Rattle.nest_base.proofs.Orders.{IsMarkedBefore-irrefl, IsMarkedBefore-trans}
 
 -- the runs of the first n places, where `at` is the vertex of each place
 pub record AreRuns (at : ℕ → Point) (n : ℕ) (vertices : List Point) (starts : List ℕ) : Type 0 where
@@ -195,15 +195,22 @@ AreRuns-goes_on at n p met vertices starts is_p same runs last = of (read_below 
         let q_is : q ≡ p = rw found at is_last in
         AreRuns-same at n (length vertices - 1) vertices starts runs (omega (arith, ap length same, last.1)) (found ∙ ap Some (q_is ∙ is_p))
 
-pub AreRuns-begins : (at : ℕ → Point) (n : ℕ) (p : Point) (met vertices : List Point) (starts : List ℕ) → p ≡ at n → met ≡ vertices → AreRuns at n vertices starts →
-    ((j : ℕ) → j < n → IsMarkedBefore (at j) (at n) ⊎ (at j ≡ at n)) → IfSome (slice_get met (length met - 1)) (λ q. q ≢ p) →
-    AreRuns at (n + 1) (vertices ++ p ∷ []) (starts ++ n ∷ [])
-AreRuns-begins at n p met vertices starts is_p same runs not_after other =
-    subst (λ q. AreRuns at (n + 1) (vertices ++ q ∷ []) (starts ++ n ∷ [])) (sym is_p) (AreRuns-more at n vertices starts runs not_after new)
-  where
-    new : (v : ℕ) (q : Point) → v + 1 ≡ length vertices → slice_get vertices v ≡ Some q → q ≢ at n
-    new v q last is e =
-        let back : length met - 1 ≡ v = omega (arith, ap length same) in
-        let found : slice_get met (length met - 1) ≡ Some q = ap (slice_get met) back ∙ ap (λ (l : List Point). slice_get l v) same ∙ is in
-        let differs : q ≢ p = rw found at other in
-        differs (e ∙ sym is_p)
+-- one that differs from the last one is none of those met
+last_differs : (p q : Point) (met vertices : List Point) (v : ℕ) → met ≡ vertices → IfSome (slice_get met (length met - 1)) (λ r. r ≢ p) → v + 1 ≡ length vertices → slice_get vertices v ≡ Some q → q ≢ p
+last_differs p q met vertices v same other last is =
+    let back : length met - 1 ≡ v = omega (arith, ap length same) in
+    let found : slice_get met (length met - 1) ≡ Some q = ap (slice_get met) back ∙ ap (λ (l : List Point). slice_get l v) same ∙ is in
+    rw found at other
+
+module _ (at : ℕ → Point) (n : ℕ) (p : Point) (met vertices : List Point) (starts : List ℕ) (is_p : p ≡ at n) (same : met ≡ vertices) (runs : AreRuns at n vertices starts)
+    (not_after : (j : ℕ) → j < n → IsMarkedBefore (at j) (at n) ⊎ (at j ≡ at n)) (other : IfSome (slice_get met (length met - 1)) (λ q. q ≢ p)) where
+  new : (v : ℕ) (q : Point) → v + 1 ≡ length vertices → slice_get vertices v ≡ Some q → q ≢ at n
+  new v q last is e = last_differs p q met vertices v same other last is (e ∙ sym is_p)
+
+  pub AreRuns-begins : AreRuns at (n + 1) (vertices ++ p ∷ []) (starts ++ n ∷ [])
+  AreRuns-begins = subst (λ q. AreRuns at (n + 1) (vertices ++ q ∷ []) (starts ++ n ∷ [])) (sym is_p) (AreRuns-more at n vertices starts runs not_after new)
+
+  pub begins_anew : Contains vertices p → ⊥
+  begins_anew there =
+      let v = read_from_Contains vertices p there in
+      IsMarkedBefore-irrefl p (at n) (each_before at n vertices starts runs not_after new v.0 p v.1) is_p

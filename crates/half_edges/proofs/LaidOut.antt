@@ -82,10 +82,10 @@ module _ (edges : List Edge) (all : List Side) {vertices : List Point} {starts :
     ends : slice_get starts (v + 1) ≡ Some behind
     ends = slice_get_read starts (length starts) (v + 1) behind refl (omega (arith, runs.one_more)) is_behind
 
-    turned_on : first ≤ behind
+    pub turned_on : first ≤ behind
     turned_on = not_turned whole all_runs v first behind begins ends
 
-    within : behind ≤ length all
+    pub within : behind ≤ length all
     within = omega (arith, behind_within whole all_runs v behind below ends, length-map all (λ (s : Side). s.0))
 
     -- its numbers are within lists by number

@@ -15,7 +15,8 @@ pub mod BurntGraphs
 pub mod GraphSizes
 pub mod GraphReads
 pub mod Placed
-pub mod MarkPlaces
+pub mod PlaceNumbers
+pub mod AngleSearch
 pub mod Built
 pub mod Cycles
 pub mod Totals

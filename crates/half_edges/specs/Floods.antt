@@ -54,9 +54,9 @@ AreKept components later = (v : ℕ) → component_at components v ≢ none → 
 -- a layout of these edges, beside the list of all half-edges
 abbrev pub IsLaidOut : Layout → List Side → List Edge → Type 0
 IsLaidOut layout all edges =
-    IsLayout edges layout.places.items (vertex_numbers layout.origins.items) (side_numbers all) layout.starts.items
+    IsLayout edges layout.places.keys (vertex_numbers layout.origins.items) (side_numbers all) layout.starts.items
 
 -- the half-edges in `sides` are those round the vertex v
 abbrev pub AreRound : Layout → List Side → List Side → ℕ → Type 0
-AreRound layout all sides v = (edges : List Edge) → IsLaidOut layout all edges → (p : Point) → slice_get layout.places.items v ≡ Some p →
+AreRound layout all sides v = (edges : List Edge) → IsLaidOut layout all edges → (p : Point) → slice_get layout.places.keys v ≡ Some p →
     IsRotationAt edges p (side_numbers sides) 0 (length (side_numbers sides))

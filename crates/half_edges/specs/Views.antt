@@ -5,8 +5,8 @@ use Rattle.half_edges.specs.Graph.{Graph, IsGraph, edges_between}
 
 abbrev pub graph_view : Inside → Graph
 graph_view g = record {
-  edges = edges_between g.layout.places.items (map (λ v. v.0) g.layout.origins.items);
-  vertices = g.layout.places.items;
+  edges = edges_between g.layout.places.keys (map (λ v. v.0) g.layout.origins.items);
+  vertices = g.layout.places.keys;
   marks = g.components.marks.items;
   origins = map (λ v. v.0) g.layout.origins.items;
   positions = g.layout.positions.items;

@@ -9,6 +9,7 @@ ghost use Rattle.nest_base.specs.NumberLists.{component_numbers, vertex_numbers}
 ghost use Rattle.nest_base.specs.Limits.{most_half_edges};
 
 use crate::layout::Layout;
+use crate::places::place_at;
 use crate::sides::twin_of;
 use nest_base::{Component, OutOfMemory, Point, Side, VertexId};
 use std::alloc::Global;
@@ -60,9 +61,9 @@ impl Flood {
         requires known { (edges : List Edge) × IsLaidOut layout.now all.now edges }
         requires few { length self.old.marks.items ≤ most_half_edges }
         requires flood { (edges : List Edge) → IsLaidOut layout.now all.now edges →
-            IsFlood edges layout.now.places.items (component_numbers self.old.of_vertex.items) self.old.marks.items (u.0 ∷ vertex_numbers self.old.found.items) }
+            IsFlood edges layout.now.places.keys (component_numbers self.old.of_vertex.items) self.old.marks.items (u.0 ∷ vertex_numbers self.old.found.items) }
         ensures flood { OnOk result ((edges : List Edge) → IsLaidOut layout.now all.now edges →
-            IsFlood edges layout.now.places.items (component_numbers self.new.of_vertex.items) self.new.marks.items (vertex_numbers self.new.found.items)) }
+            IsFlood edges layout.now.places.keys (component_numbers self.new.of_vertex.items) self.new.marks.items (vertex_numbers self.new.found.items)) }
         ensures kept { OnOk result (AreKept (component_numbers self.old.of_vertex.items) (component_numbers self.new.of_vertex.items)) }
         ensures fewer { OnOk result (unnumbered (component_numbers self.new.of_vertex.items) + length self.new.found.items
             ≡ unnumbered (component_numbers self.old.of_vertex.items) + length self.old.found.items) }
@@ -80,19 +81,19 @@ impl Flood {
         requires known { (edges : List Edge) × IsLaidOut layout.now all.now edges }
         requires few { length self.old.marks.items < most_half_edges }
         requires flood { (edges : List Edge) → IsLaidOut layout.now all.now edges →
-            IsFlood edges layout.now.places.items (component_numbers self.old.of_vertex.items) self.old.marks.items [] }
+            IsFlood edges layout.now.places.keys (component_numbers self.old.of_vertex.items) self.old.marks.items [] }
         requires empty { self.old.found.items ≡ [] }
         requires none { component_at (component_numbers self.old.of_vertex.items) v.0 ≡ none }
-        requires vertex { v.0 < length layout.now.places.items }
+        requires vertex { v.0 < length layout.now.places.keys }
         ensures flood { OnOk result ((edges : List Edge) → IsLaidOut layout.now all.now edges →
-            IsFlood edges layout.now.places.items (component_numbers self.new.of_vertex.items) self.new.marks.items []) }
+            IsFlood edges layout.now.places.keys (component_numbers self.new.of_vertex.items) self.new.marks.items []) }
         ensures empty { OnOk result (self.new.found.items ≡ []) }
         ensures kept { OnOk result (AreKept (component_numbers self.old.of_vertex.items) (component_numbers self.new.of_vertex.items)) }
         ensures numbered { OnOk result (component_at (component_numbers self.new.of_vertex.items) v.0 ≢ none) }
-        ensures marks { OnOk result ((p : Point) → slice_get layout.now.places.items v.0 ≡ Some p → self.new.marks.items ≡ self.old.marks.items ++ p ∷ []) }
+        ensures marks { OnOk result ((p : Point) → slice_get layout.now.places.keys v.0 ≡ Some p → self.new.marks.items ≡ self.old.marks.items ++ p ∷ []) }
     {
         let c = Component(self.marks.len() as u32);
-        self.marks.push(layout.places[v.0 as usize])?;
+        self.marks.push(place_at(&layout.places, v))?;
         self.reach(v, c)?;
         while let Some(u) = self.found.pop() {
             self.spread(layout, all, u)?;
@@ -104,7 +105,7 @@ impl Flood {
 /// The half-edges round a vertex.
 fn rotation_of<'a>(layout: &Layout, all: &'a [Side], v: VertexId) -> &'a [Side]
     requires known { (edges : List Edge) × IsLaidOut layout.now all.now edges }
-    requires vertex { v.0 < length layout.now.places.items }
+    requires vertex { v.0 < length layout.now.places.keys }
     ensures { AreRound layout.now all.now result.now v.0 }
 {
     let first = layout.starts[v.0 as usize] as usize;
@@ -121,10 +122,10 @@ pub fn components_of(
     layout: &Layout,
     all: &[Side],
 ) -> Result<Components, OutOfMemory>
-    requires few { length layout.now.places.items ≤ most_half_edges }
+    requires few { length layout.now.places.keys ≤ most_half_edges }
     requires known { (edges : List Edge) × IsLaidOut layout.now all.now edges }
     ensures { IfOk result (λ components. (edges : List Edge) → IsLaidOut layout.now all.now edges →
-        AreComponents edges layout.now.places.items (component_numbers components.of_vertex.items) components.marks.items) }
+        AreComponents edges layout.now.places.keys (component_numbers components.of_vertex.items) components.marks.items) }
 {
     let mut flood = Flood {
         of_vertex: vec![in alloc; NONE; layout.places.len()]?,

@@ -1,8 +1,9 @@
 //! The plane graph, and what is read of it.
-ghost use Rattle.std.specs.Prelude.{◌≡◌, ◌≢◌, ◌≤◌, ◌<◌, [], ◌∷◌, ◌++◌, length, take, slice_get, Some, All, AllPairs, Contains, List, IfOk, IfSome, IfNone, IsTrue, ◌↔◌};
-ghost use Rattle.nest_base.specs.Order.{IsBefore, IsMarkedBefore};
+ghost use Rattle.std.specs.Prelude.{◌≡◌, ◌≢◌, ◌≤◌, ◌<◌, [], ◌∷◌, ◌++◌, length, take, slice_get, Some, All, AllPairs, List, IfOk, IfSome, IfNone, IsTrue, ◌↔◌};
+ghost use Rattle.nest_base.specs.Order.{IsBefore};
 ghost use Rattle.nest_base.specs.Range.{IsEdgeWithin, widest};
-ghost use Rattle.nest_base.specs.Plane.{HalfEdge, twin};
+ghost use Rattle.nest_base.specs.Plane.{HalfEdge, twin, direction, heading};
+ghost use Rattle.nest_base.specs.Angles.{angle_cmp};
 ghost use Rattle.nest_base.specs.Limits.{most_edges, most_half_edges};
 ghost use Rattle.plate_edges.specs.Points.{EdgesMeetAtEndsOnly};
 ghost use Rattle.plate_sides.specs.HalfEdges.{IsVertex, IsHalfEdge, IsNextCcw, IsNextCw};
@@ -22,11 +23,12 @@ ghost use Rattle.half_edges.specs.Burns.{AreOfTwoEdges, IsBurnt, with_burnt};
 use crate::burns::Burns;
 use crate::components::{Components, components_of};
 use crate::layout::{Layout, layout_of};
-use crate::mark_order::MarkOrder;
-use crate::rotation::all_round;
+use crate::places::{number_of, place_at};
+use crate::rotation::{Direction, all_round, way};
 use crate::sides::twin_of;
 use nest_base::{Component, Edges, OutOfMemory, Point, Side, VertexId};
 use std::alloc::Global;
+use std::cmp::Ordering;
 use std::marker::Model;
 
 /// The graph of the edges of a drawing. Contracts see its edges in their order, its vertices in the order of mark vertices, and the
@@ -55,7 +57,7 @@ impl Model for PlaneGraph {
 impl PlaneGraph {
     /// The graph of these edges: the edge at place k has the sides 2k, from low to high, and 2k + 1, from high to low. None is burnt.
     ///
-    /// Takes **O(n log n)** for n edges. `OutOfMemory` comes for want of memory alone.
+    /// Takes **O(n log n)** for n edges, unless places were chosen to collide. `OutOfMemory` comes for want of memory alone.
     pub fn build(alloc: Global, edges: &Edges) -> Result<PlaneGraph, OutOfMemory>
         requires few { length edges.now ≤ most_edges }
         requires within { All (IsEdgeWithin widest) edges.now }
@@ -147,7 +149,7 @@ impl PlaneGraph {
         requires { v.0 < length self.now.vertices }
         ensures { slice_get self.now.vertices v.0 ≡ Some result }
     {
-        self.layout.places[v.0 as usize]
+        place_at(&self.layout.places, v)
     }
 
     /// How many edges end at a vertex, which is how many half-edges leave it.
@@ -255,32 +257,72 @@ impl PlaneGraph {
         ensures component { component_of self.now result.0 ≡ c.0 }
         ensures within { result.0 < length self.now.vertices }
     {
-        let v = place_among(&self.layout.places, self.components.marks[c.0 as usize]).unwrap();
-        VertexId(v as u32)
+        number_of(&self.layout.places, self.components.marks[c.0 as usize]).unwrap()
     }
 
     /// The vertex at a place; `None` exactly where none is there.
+    ///
+    /// Takes **O(1)**, however many vertices there are, unless places were chosen to collide.
     pub fn find_vertex(&self, p: Point) -> Option<VertexId>
         ensures found { IfSome result (λ v. slice_get self.now.vertices v.0 ≡ Some p) }
         ensures none { IfNone result (IsVertex self.now.edges p → ⊥) }
     {
-        let v = place_among(&self.layout.places, p)?;
-        Some(VertexId(v as u32))
+        number_of(&self.layout.places, p)
+    }
+
+    /// The direction from one vertex to another.
+    fn way_between(&self, v: VertexId, w: VertexId) -> Direction
+        requires from { v.0 < length self.now.vertices }
+        requires to { w.0 < length self.now.vertices }
+        ensures way { (p q : Point) → slice_get self.now.vertices v.0 ≡ Some p → slice_get self.now.vertices w.0 ≡ Some q → result.0 ≡ direction p q }
+        ensures ends_in_order { All (λ e. IsBefore e.low e.high) self.now.edges }
+        ensures apart { AllPairs EdgesMeetAtEndsOnly self.now.edges }
+    {
+        way(
+            place_at(&self.layout.places, v),
+            place_at(&self.layout.places, w),
+        )
+    }
+
+    /// The half-edge that leaves a vertex in a direction; `None` where none does. Round a vertex half-edges stand by angle, and no two
+    /// lead in one direction, so a search by halves finds it.
+    fn find_toward(&self, v: VertexId, toward: Direction) -> Option<Side>
+        requires { v.0 < length self.now.vertices }
+        ensures found { IfSome result (λ s. (p : Point) → slice_get self.now.vertices v.0 ≡ Some p →
+            (h : HalfEdge) × IsSide self.now.edges s.0 h × (h.from ≡ p) × (angle_cmp (heading h) toward.0 ≡ Ordering.Equal)) }
+        ensures within { IfSome result (λ s. s.0 < length (half_edges_of self.now.edges)) }
+        ensures none { IfNone result ((h : HalfEdge) → IsHalfEdge self.now.edges h → slice_get self.now.vertices v.0 ≡ Some h.from →
+            angle_cmp (heading h) toward.0 ≡ Ordering.Equal → ⊥) }
+    {
+        let mut low = 0;
+        let mut high = self.degree(v);
+        while low < high {
+            let middle = low + (high - low) / 2;
+            let s = self.side_at(v, middle);
+            match self.way_between(v, self.to(s)).cmp(&toward) {
+                Ordering::Less => low = middle + 1,
+                Ordering::Equal => return Some(s),
+                Ordering::Greater => high = middle,
+            }
+        }
+        None
     }
 
     /// The half-edge from one place to another; `None` exactly where no edge has these ends.
+    ///
+    /// Takes **O(log d)** for d edges that end at `a`, and the time of `find_vertex`. Takes no memory.
     pub fn find_side(&self, a: Point, b: Point) -> Option<Side>
         ensures found { IfSome result (λ s. IsSide self.now.edges s.0 (record { from = a; to = b })) }
         ensures none { IfNone result (IsHalfEdge self.now.edges (record { from = a; to = b }) → ⊥) }
     {
         let v = self.find_vertex(a)?;
-        for k in 0..self.degree(v) {
-            let s = self.side_at(v, k);
-            if self.place(self.to(s)) == b {
-                return Some(s);
-            }
+        let w = self.find_vertex(b)?;
+        let s = self.find_toward(v, self.way_between(v, w))?;
+        if self.place(self.to(s)) == b {
+            Some(s)
+        } else {
+            None
         }
-        None
     }
 
     /// How many edges are burnt: what `unburn_to` takes to come back here. No edge is burnt twice.
@@ -317,15 +359,4 @@ impl PlaneGraph {
     {
         self.burns.unburn_to(mark as usize);
     }
-}
-
-/// Where a place stands among places in the order of mark vertices; `None` where it doesn't.
-fn place_among(places: &[Point], p: Point) -> Option<usize>
-    requires { AllPairs IsMarkedBefore places.now }
-    ensures found { IfSome result (λ v. slice_get places.now v ≡ Some p) }
-    ensures none { IfNone result (Contains places.now p → ⊥) }
-{
-    places
-        .binary_search_by_key(&MarkOrder::of(p), |q| MarkOrder::of(*q))
-        .ok()
 }

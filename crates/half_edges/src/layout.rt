@@ -7,13 +7,14 @@ ghost use Rattle.half_edges.specs.Rotations.{AreAllRound};
 ghost use Rattle.half_edges.specs.Runs.{from_at, AreAllRuns, NumbersRotation};
 ghost use Rattle.half_edges.specs.Layouts.{IsLayout, ArePositions};
 
+use indexmap::IndexSet;
 use nest_base::{Edge, OutOfMemory, Point, Side, VertexId};
 use std::alloc::Global;
 
 /// Vertices by number, and for each half-edge by number the vertex that it leaves and its place in the rotation there.
 #[derive(Drop)]
 pub struct Layout {
-    pub places: Vec<Point>,
+    pub places: IndexSet<Point>,
     pub origins: Vec<VertexId>,
     /// Where the half-edges of each vertex begin in the list of all; behind the last one, how many there are.
     pub starts: Vec<u32>,
@@ -33,7 +34,7 @@ fn start_of(edges: &[Edge], side: Side) -> Point
 /// The vertices, and where the half-edges of each begin in the list of all; behind the last one, how many there are.
 #[derive(Drop)]
 struct Runs {
-    places: Vec<Point>,
+    places: IndexSet<Point>,
     starts: Vec<u32>,
 }
 
@@ -52,14 +53,14 @@ fn is_last(places: &[Point], p: Point) -> bool
 fn runs_of(alloc: Global, edges: &[Edge], all: &[Side]) -> Result<Runs, OutOfMemory>
     requires few { length edges.now ≤ most_edges }
     requires all_round { AreAllRound edges.now (map (λ s. s.0) all.now) }
-    ensures { IfOk result (λ runs. AreAllRuns (from_at edges.now (map (λ s. s.0) all.now)) (length all.now) runs.places.items runs.starts.items) }
+    ensures { IfOk result (λ runs. AreAllRuns (from_at edges.now (map (λ s. s.0) all.now)) (length all.now) runs.places.keys runs.starts.items) }
 {
-    let mut places = Vec::new(alloc);
+    let mut places = IndexSet::new(alloc);
     let mut starts = Vec::new(alloc);
     for (k, side) in all.iter().enumerate() {
         let at = start_of(edges, *side);
-        if !is_last(&places, at) {
-            places.push(at)?;
+        if !is_last(places.as_slice(), at) {
+            places.insert(at)?;
             starts.push(k as u32)?;
         }
     }
@@ -88,7 +89,7 @@ fn number_rotation(rotation: &[Side], v: VertexId, origins: &mut [VertexId], pos
 pub fn layout_of(alloc: Global, edges: &[Edge], all: &[Side]) -> Result<Layout, OutOfMemory>
     requires few { length edges.now ≤ most_edges }
     requires all_round { AreAllRound edges.now (map (λ s. s.0) all.now) }
-    ensures layout { IfOk result (λ l. IsLayout edges.now l.places.items (map (λ v. v.0) l.origins.items) (map (λ s. s.0) all.now) l.starts.items) }
+    ensures layout { IfOk result (λ l. IsLayout edges.now l.places.keys (map (λ v. v.0) l.origins.items) (map (λ s. s.0) all.now) l.starts.items) }
     ensures positions { IfOk result (λ l. ArePositions edges.now l.positions.items) }
 {
     let runs = runs_of(alloc, edges, all)?;

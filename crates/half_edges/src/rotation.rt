@@ -3,6 +3,7 @@ ghost use Rattle.std.specs.Prelude.{◌≡◌, ◌≤◌, length, map, All, AllP
 ghost use Rattle.std.specs.Cmp.{partial_equiv_from_equiv, partial_order_from_agreeing_total, on_total};
 ghost use Rattle.std.specs.Ordering.{is_eq};
 ghost use Rattle.std.proofs.lemmas.Cmp.{eq_by_cmp_equiv};
+ghost use Rattle.nest_base.specs.Plane.{direction};
 ghost use Rattle.nest_base.specs.Angles.{angle_cmp};
 ghost use Rattle.nest_base.proofs.Angles.{angle_cmp-total};
 ghost use Rattle.nest_base.specs.Order.{IsBefore};
@@ -19,7 +20,7 @@ use std::cmp::Ordering;
 
 /// A direction, compared by angle, counterclockwise from west.
 #[derive(Clone, Copy, Drop)]
-struct Direction(Point);
+pub struct Direction(Point);
 
 impl PartialEq for Direction {
     ghost eq = { λ a b. is_eq (angle_cmp a.0 b.0) };
@@ -59,6 +60,18 @@ impl Ord for Direction {
     }
 }
 
+/// The direction from one place to another.
+pub fn way(from: Point, to: Point) -> Direction
+    requires from_within { IsWithin widest from }
+    requires to_within { IsWithin widest to }
+    ensures { result.0 ≡ direction from to }
+{
+    Direction(Point {
+        x: to.x - from.x,
+        y: to.y - from.y,
+    })
+}
+
 /// A half-edge as it leaves its vertex. No two have one place and one direction, so the number decides nothing.
 #[derive(Clone, Copy, PartialEq, Eq, PartialOrd, Ord, Drop)]
 struct Spoke {
@@ -75,10 +88,7 @@ fn spoke_of(from: Point, to: Point, side: Side) -> Spoke
 {
     Spoke {
         at: MarkOrder::of(from),
-        toward: Direction(Point {
-            x: to.x - from.x,
-            y: to.y - from.y,
-        }),
+        toward: way(from, to),
         side,
     }
 }

@@ -34,14 +34,14 @@ loop-v-init c =
     let c0 : Component = record { 0 = none } in
     let items : c.in_ok-vec.field-0.items ≡ replicate c.len.result c0 = c.in_ok-vec.ensures.items_if_clones_equal (λ y same. same) in
     let count : length c.in_ok-vec.field-0.items ≡ c.len.result = ap length items ∙ length-replicate c.len.result c0 in
-    numbers_begun (IsLaidOut c.args.layout.now c.args.all.now) c.args.layout.now.places.items (component_numbers c.in_ok-vec.field-0.items) c.new.result.items (vertex_numbers c.new-2.result.items)
+    numbers_begun (IsLaidOut c.args.layout.now c.args.all.now) c.args.layout.now.places.keys (component_numbers c.in_ok-vec.field-0.items) c.new.result.items (vertex_numbers c.new-2.result.items)
     (omega (arith, length-component_numbers c.in_ok-vec.field-0.items, count)) (λ v. rw items (all_bare c.len.result v c0 refl)) c.new.ensures.items (ap vertex_numbers c.new-2.ensures.items)
 
 pub loop-v-preserved : goal.loop-v-preserved
 loop-v-preserved c =
     let self = c.loop-v.flood in
     let s = c.loop-v.invariant in
-    let places = c.args.layout.now.places.items in
+    let places = c.args.layout.now.places.keys in
     let v = c.loop-v.v in
     let below : v < length places = omega arith in
     let within : v < length self.of_vertex.items = omega (arith, s.as_many, length-component_numbers self.of_vertex.items) in
@@ -63,7 +63,7 @@ loop-v-preserved c =
 pub returns : goal.returns
 returns c = λ edges lay.
     let s = c.loop-v.invariant in
-    let places = c.args.layout.now.places.items in
+    let places = c.args.layout.now.places.keys in
     let done : c.loop-v.v ≡ length places = omega arith in
     components_found edges places (component_numbers c.loop-v.flood.of_vertex.items) c.loop-v.flood.marks.items lay.are_vertices (s.flood edges lay)
     (subst (λ n. AreFirstMarks edges places n c.loop-v.flood.marks.items) done (s.firsts edges lay)) (λ j less. s.numbered j (omega arith))

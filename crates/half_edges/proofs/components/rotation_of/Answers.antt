@@ -15,7 +15,7 @@ use Rattle.half_edges.proofs.components.rotation_of.Goals as goal
 
 -- the two places that are read
 record AreRead (layout : Layout) (v first behind : ℕ) : Type 0 where
-  within : v < length layout.places.items
+  within : v < length layout.places.keys
   begins : first ≡ get_or layout.starts.items v first
   ends : behind ≡ get_or layout.starts.items (v + 1) behind
 
@@ -31,11 +31,11 @@ behind_at layout all edges v first behind lay r =
 bounds : (layout : Layout) (all : List Side) (edges : List Edge) (v first behind : ℕ) → IsLaidOut layout all edges → AreRead layout v first behind →
     (first ≤ behind) × (behind ≤ length all)
 bounds layout all edges v first behind lay r =
-    let w = rotation_within edges layout.places.items _ _ layout.starts.items v first behind lay r.within (first_at layout all edges v first behind lay r) (behind_at layout all edges v first behind lay r) in
+    let w = rotation_within edges layout.places.keys _ _ layout.starts.items v first behind lay r.within (first_at layout all edges v first behind lay r) (behind_at layout all edges v first behind lay r) in
     (w.0, omega (arith, w.1, length-side_numbers all))
 
 rotation_component : (layout : Layout) (all : List Side) (edges : List Edge) (v first behind : ℕ) (p : Point) → IsLaidOut layout all edges → AreRead layout v first behind →
-    slice_get layout.places.items v ≡ Some p →
+    slice_get layout.places.keys v ≡ Some p →
     IsRotationAt edges p (side_numbers (take (behind - first) (drop first all))) 0 (length (side_numbers (take (behind - first) (drop first all))))
 rotation_component layout all edges v first behind p lay r at =
     let number : Side → ℕ = λ s. s.0 in

@@ -4,4 +4,4 @@ use Rattle.half_edges.proofs.Grouping.{AreRuns}
 use Rattle.half_edges.proofs.layout.runs_of.Given as goal
 
 abbrev pub invariant-loop-k : goal.invariant-loop-k
-invariant-loop-k l = AreRuns (from_at l.edges (map (λ s. s.0) l.all)) l.k l.places.items l.starts.items
+invariant-loop-k l = AreRuns (from_at l.edges (map (λ s. s.0) l.all)) l.k l.places.keys l.starts.items

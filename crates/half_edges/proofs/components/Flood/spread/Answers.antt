@@ -17,19 +17,19 @@ use Rattle.half_edges.proofs.Spreading.{IsNext, spreading_begun, spreading_more,
 use Rattle.half_edges.proofs.components.Flood.spread.Goals as goal
 
 -- the half-edge at i leads to a neighbour
-next_side : (layout : Layout) (all sides : List Side) (u i : ℕ) → AreRound layout all sides u → i < length sides → u < length layout.places.items →
+next_side : (layout : Layout) (all sides : List Side) (u i : ℕ) → AreRound layout all sides u → i < length sides → u < length layout.places.keys →
     (edges : List Edge) → IsLaidOut layout all edges →
-    (s : ℕ) → slice_get (side_numbers sides) i ≡ Some s → (twin_number s < length (vertex_numbers layout.origins.items)) × Joins edges layout.places.items u (end_of (vertex_numbers layout.origins.items) s)
+    (s : ℕ) → slice_get (side_numbers sides) i ≡ Some s → (twin_number s < length (vertex_numbers layout.origins.items)) × Joins edges layout.places.keys u (end_of (vertex_numbers layout.origins.items) s)
 next_side layout all sides u i round within below edges lay s is =
-    let places = layout.places.items in
+    let places = layout.places.keys in
     let at = read_below places u below in
     rotation_joins edges places (vertex_numbers layout.origins.items) (side_numbers all) layout.starts.items (side_numbers sides) u i s at.0 lay at.1 (round edges lay at.0 at.1) is
 
-next_read : (layout : Layout) (all sides : List Side) (components : List ℕ) (u i w : ℕ) (d : Side) → AreRound layout all sides u → i < length sides → u < length layout.places.items →
-    w ≡ end_of (vertex_numbers layout.origins.items) (get_or sides i d).0 → length components ≡ length layout.places.items → (edges : List Edge) → IsLaidOut layout all edges →
-    IsNext (IsLaidOut layout all) layout.places.items (vertex_numbers layout.origins.items) (side_numbers sides) u i w components
+next_read : (layout : Layout) (all sides : List Side) (components : List ℕ) (u i w : ℕ) (d : Side) → AreRound layout all sides u → i < length sides → u < length layout.places.keys →
+    w ≡ end_of (vertex_numbers layout.origins.items) (get_or sides i d).0 → length components ≡ length layout.places.keys → (edges : List Edge) → IsLaidOut layout all edges →
+    IsNext (IsLaidOut layout all) layout.places.keys (vertex_numbers layout.origins.items) (side_numbers sides) u i w components
 next_read layout all sides components u i w d round within below is as_many edges lay =
-    let places = layout.places.items in
+    let places = layout.places.keys in
     let at = side_read sides i d within in
     let joins : (others : List Edge) → IsLaidOut layout all others → Joins others places u w =
     λ others known. subst (λ n. Joins others places u n) (sym is) (next_side layout all sides u i round within below others known (get_or sides i d).0 at).1 in
@@ -41,11 +41,11 @@ next_read layout all sides components u i w d round within below is as_many edge
     }
 
 -- a half-edge leads to each neighbour
-joined_round : (layout : Layout) (all sides : List Side) (u : ℕ) → AreRound layout all sides u → u < length layout.places.items →
-    (edges : List Edge) → IsLaidOut layout all edges → (w : ℕ) → Joins edges layout.places.items u w →
+joined_round : (layout : Layout) (all sides : List Side) (u : ℕ) → AreRound layout all sides u → u < length layout.places.keys →
+    (edges : List Edge) → IsLaidOut layout all edges → (w : ℕ) → Joins edges layout.places.keys u w →
     (k : ℕ) × (s : ℕ) × (k < length (side_numbers sides)) × (slice_get (side_numbers sides) k ≡ Some s) × (end_of (vertex_numbers layout.origins.items) s ≡ w)
 joined_round layout all sides u round within edges lay w join =
-    let places = layout.places.items in
+    let places = layout.places.keys in
     let at = read_below places u within in
     joined_in_rotation edges places (vertex_numbers layout.origins.items) (side_numbers all) layout.starts.items (side_numbers sides) u w at.0 lay at.1 (round edges lay at.0 at.1) join
 
@@ -53,12 +53,12 @@ pub index-c-requires : goal.index-c-requires
 index-c-requires c =
     let flood = c.requires.flood c.requires.known.0 c.requires.known.1 in
     let items = c.args.self.now.of_vertex.items in
-    let within = flood_within c.requires.known.0 c.args.layout.now.places.items (component_numbers items) c.args.self.now.marks.items c.args.u.0 (vertex_numbers c.args.self.now.found.items) flood (omega arith) in
+    let within = flood_within c.requires.known.0 c.args.layout.now.places.keys (component_numbers items) c.args.self.now.marks.items c.args.u.0 (vertex_numbers c.args.self.now.found.items) flood (omega arith) in
     omega (arith, within, flood.as_many, length-component_numbers items)
 
 pub rotation_of-s-items-requires-clause-vertex : goal.rotation_of-s-items-requires-clause-vertex
 rotation_of-s-items-requires-clause-vertex c =
-    flood_within c.requires.known.0 c.args.layout.now.places.items (component_numbers c.args.self.now.of_vertex.items) c.args.self.now.marks.items c.args.u.0 (vertex_numbers c.args.self.now.found.items)
+    flood_within c.requires.known.0 c.args.layout.now.places.keys (component_numbers c.args.self.now.of_vertex.items) c.args.self.now.marks.items c.args.u.0 (vertex_numbers c.args.self.now.found.items)
     (c.requires.flood c.requires.known.0 c.requires.known.1) (omega arith)
 
 pub loop-s-init : goal.loop-s-init
@@ -67,9 +67,9 @@ loop-s-init c =
     let items = c.args.self.now.of_vertex.items in
     let found = vertex_numbers c.args.self.now.found.items in
     let few : length c.args.self.now.marks.items ≤ none = omega arith in
-    let within = flood_within c.requires.known.0 c.args.layout.now.places.items (component_numbers items) c.args.self.now.marks.items c.args.u.0 found flood few in
+    let within = flood_within c.requires.known.0 c.args.layout.now.places.keys (component_numbers items) c.args.self.now.marks.items c.args.u.0 found flood few in
     let below : c.args.u.0 < length items = omega (arith, within, flood.as_many, length-component_numbers items) in
-    spreading_begun (IsLaidOut c.args.layout.now c.args.all.now) c.args.layout.now.places.items (vertex_numbers c.args.layout.now.origins.items) (side_numbers c.rotation_of-s-items.result.now)
+    spreading_begun (IsLaidOut c.args.layout.now c.args.all.now) c.args.layout.now.places.keys (vertex_numbers c.args.layout.now.origins.items) (side_numbers c.rotation_of-s-items.result.now)
     c.args.u.0 c.index-c.result.now.0 (component_numbers items) found c.args.self.now.marks.items
     (component_read items c.args.u.0 c.index-c.result.now below c.index-c.ensures)
     (flood.last c.args.u.0 (Contains-head c.args.u.0 found)) few c.requires.flood

@@ -12,7 +12,7 @@ invariant-loop-u l = record {
   kept : AreKept (component_numbers l.fn.self.of_vertex.items) (component_numbers l.self.of_vertex.items);
   numbered : component_at (component_numbers l.self.of_vertex.items) l.fn.v.0 ≢ none;
   flood : (edges : List Edge) → IsLaidOut l.layout l.all edges →
-      IsFlood edges l.layout.places.items (component_numbers l.self.of_vertex.items) l.self.marks.items (vertex_numbers l.self.found.items);
+      IsFlood edges l.layout.places.keys (component_numbers l.self.of_vertex.items) l.self.marks.items (vertex_numbers l.self.found.items);
 }
 
 abbrev pub decreases-loop-u : goal.decreases-loop-u

@@ -9,7 +9,7 @@ all_round-requires-clause-apart c = rw c.as_slice.ensures c.requires.apart
 pub components_of-requires-clause-few : goal.components_of-requires-clause-few
 components_of-requires-clause-few c =
     let layout = rw (c.as_slice-2.ensures, c.deref.ensures.value) at c.in_ok-layout.ensures.layout in
-    omega (arith, c.requires.few, length-vertices-le c.args.edges.now c.in_ok-layout.layout.places.items layout.are_vertices)
+    omega (arith, c.requires.few, length-vertices-le c.args.edges.now c.in_ok-layout.layout.places.keys layout.are_vertices)
 
 pub invariant_of-result : goal.invariant_of-result
 invariant_of-result c =

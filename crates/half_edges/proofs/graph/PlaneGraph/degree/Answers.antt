@@ -25,7 +25,7 @@ returns-clause-sides c =
     let starts = c.self.inside.layout.starts.items in
     let counted = counted_at c.self.invariant.graph c.args.v.0 p.0 p.1 in
     let long = c.self.invariant.graph.layout.one_more in
-    let below = slice_get_within c.self.inside.layout.places.items c.args.v.0 p.0 p.1 in
+    let below = slice_get_within c.self.inside.layout.places.keys c.args.v.0 p.0 p.1 in
     let first = get_or_read starts c.args.v.0 c.index-2.result.now (omega (arith, long, below)) c.index-2.ensures 0 in
     let behind = get_or_read starts (c.args.v.0 + 1) c.index.result.now (omega (arith, long, below)) c.index.ensures 0 in
     rw (← c.self.view_is) (omega (arith, counted, first, behind))

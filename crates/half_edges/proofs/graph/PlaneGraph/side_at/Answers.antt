@@ -34,7 +34,7 @@ returns-clause-number c =
     let number : Side → ℕ = λ s. s.0 in
     let place = c.index.result.now + c.args.k in
     let first = get_or_read c.self.inside.layout.starts.items c.args.v.0 c.index.result.now
-    (omega (arith, c.self.invariant.graph.layout.one_more, slice_get_within c.self.inside.layout.places.items c.args.v.0 p.0 p.1)) c.index.ensures 0 in
+    (omega (arith, c.self.invariant.graph.layout.one_more, slice_get_within c.self.inside.layout.places.keys c.args.v.0 p.0 p.1)) c.index.ensures 0 in
     rw (← c.self.view_is)
     (ap number c.index-2.ensures
     ∙ sym (get_or-map number all place c.index-2.result.now 0 (omega (arith, within, length-map all number)))
