@@ -9,11 +9,13 @@ use Rattle.nest_base.specs.Range.{IsWithin, IsEdgeWithin}
 use Rattle.half_edges.specs.Numbers.{half_edges_of}
 use Rattle.half_edges.specs.Graph.{Graph}
 use Rattle.cover_plan.specs.Trails.{half_edge_of}
+use Rattle.part_scrap.specs.Naming.{TellsScrap}
 use Rattle.lead_ins.specs.declared.corners.Corner.{Corner}
-use Rattle.lead_ins.specs.Corners.{IsCornerOf, IsOffEdges, IsOffLeads, FitsCorner}
+use Rattle.lead_ins.specs.Corners.{IsCornerOf, IsOffEdges, IsOffLeads, FitsCorner, FitsOffEdges}
 use Rattle.lead_ins.specs.Tries.{lead_reach}
 use Rattle.lead_ins.proofs.EdgeReads.{beginning_within}
 use Rattle.lead_ins.proofs.FirstFits.{first_fit_by, some_weaker}
+use Rattle.lead_ins.proofs.Told.{scrap_told}
 use Rattle.lead_ins.proofs.Tried.{tried_within}
 
 -- a corner lies at the vertex of its half-edge
@@ -31,8 +33,8 @@ module _ (graph : Graph) (places : List Point) (earlier : List Lead) (s : ℕ) (
     is.b,
     is.is_corner,
     record {
-      apart = λ e. clear.apart (e ∙ sym is.between.vertex);
-      in_corner = rw (is.between.first, is.between.vertex, is.between.last) at clear.in_corner;
+      apart = λ e. clear.from_within.apart (e ∙ sym is.between.vertex);
+      in_corner = rw (is.between.first, is.between.vertex, is.between.last) at clear.from_within.in_corner;
       in_scrap = scrap;
       off_edges = subst (λ v. IsOffEdges graph.edges v q) is.between.vertex clear.off_edges;
       off_earlier = subst (λ v. IsOffLeads earlier v q) is.between.vertex clear.off_earlier;
@@ -42,8 +44,10 @@ module _ (graph : Graph) (places : List Point) (earlier : List Lead) (s : ℕ) (
   pub fits_this : (q : Point) → FitsHand graph.edges places earlier (half_edge_of graph s) hand q → FitsCorner graph places earlier corner q
   fits_this q (c, d, is_corner, fits) = (
     record {
-      apart = λ e. here.apart (e ∙ is.between.vertex);
-      in_corner = rw (is.between.first, is.between.vertex, is.between.last) here.in_corner;
+      from_within = record {
+        apart = λ e. here.apart (e ∙ is.between.vertex);
+        in_corner = rw (is.between.first, is.between.vertex, is.between.last) here.in_corner;
+      };
       off_edges = subst (λ v. IsOffEdges graph.edges v q) (sym is.between.vertex) here.off_edges;
       off_earlier = subst (λ v. IsOffLeads earlier v q) (sym is.between.vertex) here.off_earlier;
     },
@@ -53,6 +57,28 @@ module _ (graph : Graph) (places : List Point) (earlier : List Lead) (s : ℕ) (
     here =
         let same = is.alone c d is_corner in
         subst (λ h. Fits graph.edges places earlier q a h) same.1 (subst (λ h. Fits graph.edges places earlier q h d) same.0 fits)
+
+  -- of a cut that touches no edge but at the vertex less has to be found out, where it's told which faces are scrap
+  module _ (faces : List ℕ) (names : List (Option ℕ)) (told : TellsScrap graph.edges places faces names) (q : Point) where
+    pub off_fits_hand : IsOffEdges graph.edges (half_edge_of graph s).from q → FitsOffEdges faces names earlier corner q →
+        FitsHand graph.edges places earlier (half_edge_of graph s) hand q
+    off_fits_hand off fits = fits_hand q (
+      record {
+        from_within = fits.from_within;
+        off_edges = subst (λ v. IsOffEdges graph.edges v q) (sym (vertex_of graph s hand corner is)) off;
+        off_earlier = fits.off_earlier;
+      },
+      (scrap_told graph places faces names corner.side.0 told is.between.within).0 fits.in_scrap,
+    )
+
+    pub fits_this_off : FitsHand graph.edges places earlier (half_edge_of graph s) hand q → FitsOffEdges faces names earlier corner q
+    fits_this_off fits =
+        let (clear, scrap) = fits_this q fits in
+        record {
+          in_scrap = (scrap_told graph places faces names corner.side.0 told is.between.within).1 scrap;
+          from_within = clear.from_within;
+          off_earlier = clear.off_earlier;
+        }
 
   -- so the first that fits is the same
   pub first_by_hand : (answer : Option Point) → IsFirstFit (FitsCorner graph places earlier corner) (tried_around corner.vertex) answer →

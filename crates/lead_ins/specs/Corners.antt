@@ -1,5 +1,5 @@
 -- The corners of a half-edge, and lead-ins that keep clear of all else there.
-use Rattle.std.specs.Prelude.{◌≡◌, ◌≢◌, ◌<◌, ℕ, List, Contains, length}
+use Rattle.std.specs.Prelude.{◌≡◌, ◌≢◌, ◌<◌, ℕ, List, Option, Some, None, Contains, length, slice_get, slice_index}
 use Rattle.nest_base.specs.declared.places.Point.{Point}
 use Rattle.nest_base.specs.declared.places.Edge.{Edge}
 use Rattle.nest_base.specs.Plane.{HalfEdge, direction, heading}
@@ -45,10 +45,14 @@ IsOffEdges edges v q = (e : Edge) → Contains edges e → TouchesAtMostAt v q e
 abbrev pub IsOffLeads : List Lead → Point → Point → Type 0
 IsOffLeads leads v q = (l : Lead) → Contains leads l → TouchesAtMostAt v q l.from l.to
 
--- a lead-in from q to the vertex of the corner fits it, whatever face it lies in
-pub record IsClear (edges : List Edge) (earlier : List Lead) (corner : Corner) (q : Point) : Type 0 where
+-- the cut from q to the vertex of the corner comes to it from within the corner
+pub record ComesFromWithin (corner : Corner) (q : Point) : Type 0 where
   pub apart : q ≢ corner.vertex
   pub in_corner : IsInsideAngle corner.first (direction corner.vertex q) corner.last
+
+-- a lead-in from q to the vertex of the corner fits it, whatever face it lies in
+pub record IsClear (edges : List Edge) (earlier : List Lead) (corner : Corner) (q : Point) : Type 0 where
+  pub from_within : ComesFromWithin corner q
   pub off_edges : IsOffEdges edges corner.vertex q
   pub off_earlier : IsOffLeads earlier corner.vertex q
 
@@ -56,3 +60,9 @@ pub record IsClear (edges : List Edge) (earlier : List Lead) (corner : Corner) (
 abbrev pub FitsCorner : Graph → List Point → List Lead → Corner → Point → Type 0
 FitsCorner graph places earlier corner q =
     IsClear graph.edges earlier corner q × IsScrap graph.edges places (At (half_edge_of graph corner.side.0))
+
+-- what remains of this for a cut that touches no edge but at the vertex, where it's told by number of a face which are scrap
+pub record FitsOffEdges (faces : List ℕ) (names : List (Option ℕ)) (earlier : List Lead) (corner : Corner) (q : Point) : Type 0 where
+  pub in_scrap : slice_get names (slice_index faces corner.side.0) ≡ Some None
+  pub from_within : ComesFromWithin corner q
+  pub off_earlier : IsOffLeads earlier corner.vertex q

@@ -4,7 +4,8 @@ ghost use Rattle.nest_base.specs.Limits.{most_edges};
 ghost use Rattle.nest_base.specs.Plane.{HalfEdge};
 ghost use Rattle.nest_base.specs.Range.{IsWithin, widest};
 ghost use Rattle.half_edges.specs.Numbers.{half_edges_of};
-ghost use Rattle.lead_ins.specs.Corners.{IsLeadWithin, IsCornerBetween, IsOffEdges, IsOffLeads, IsClear};
+ghost use Rattle.half_edges.specs.Graph.{Graph};
+ghost use Rattle.lead_ins.specs.Corners.{IsLeadWithin, IsCornerBetween, IsOffEdges, IsOffLeads, ComesFromWithin, IsClear};
 
 use crate::angle::{direction_to, is_inside};
 use crate::corners::Corner;
@@ -52,7 +53,7 @@ fn is_blocked_nearby(graph: &PlaneGraph, first: Side, v: Point, q: Point) -> boo
 
 /// Whether the straight cut from `q` to `v` touches no edge but at `v`.
 ///
-/// Takes **O(n)** for n edges.
+/// Both lie within 2,000,000,000 micrometres. Takes **O(n)** for n edges, and no memory.
 pub fn is_off_edges(graph: &PlaneGraph, v: Point, q: Point) -> bool
     requires v_within { IsWithin widest v }
     requires q_within { IsWithin widest q }
@@ -84,22 +85,32 @@ pub fn is_off_leads(leads: &[Lead], v: Point, q: Point) -> bool
     true
 }
 
+/// Whether a cut from `q` comes to the vertex of a corner from within the corner.
+pub fn comes_from_within(corner: Corner, q: Point) -> bool
+    requires corner { (graph : Graph) × (b : HalfEdge) × IsCornerBetween graph corner b }
+    requires q_within { IsWithin widest q }
+    ensures { IsTrue result ↔ ComesFromWithin corner q }
+{
+    let v = corner.vertex;
+    if q == v {
+        return false;
+    }
+    is_inside(corner.first, direction_to(v, q), corner.last)
+}
+
 /// Whether a lead-in from `q` to the vertex of a corner lies in the corner, and touches no edge and no earlier lead-in but there.
 ///
-/// Only a cut that leaves the vertex within the corner, and meets no edge there at once, is held against all edges.
+/// Only a cut that comes to the vertex from within the corner, and meets no edge there at once, is held against all edges.
 pub fn is_clear(graph: &PlaneGraph, earlier: &[Lead], corner: Corner, q: Point) -> bool
     requires corner { (b : HalfEdge) × IsCornerBetween graph.now corner b }
     requires q_within { IsWithin widest q }
     requires earlier_within { All (IsLeadWithin widest) earlier.now }
     ensures { IsTrue result ↔ IsClear graph.now.edges earlier.now corner q }
 {
+    if !comes_from_within(corner, q) {
+        return false;
+    }
     let v = corner.vertex;
-    if q == v {
-        return false;
-    }
-    if !is_inside(corner.first, direction_to(v, q), corner.last) {
-        return false;
-    }
     if is_blocked_nearby(graph, corner.side, v, q) {
         return false;
     }

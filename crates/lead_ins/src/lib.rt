@@ -17,7 +17,7 @@ mod tries;
 
 pub use all::lead_all;
 pub use angle::is_inside;
-pub use clear::edge_at;
-pub use leading::{is_free, lead};
+pub use clear::{edge_at, is_off_edges};
+pub use leading::{is_free, is_free_off_edges, lead};
 pub use plate_parts::Lead;
 pub use touch::touches_at_most_at;

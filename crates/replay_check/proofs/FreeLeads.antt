@@ -8,6 +8,7 @@ use Rattle.std.proofs.lemmas.Option.{slice_get_within, get_or_from_slice_get}
 use Rattle.nest_base.specs.declared.places.Point.{Point}
 use Rattle.nest_base.specs.declared.places.Edge.{Edge}
 use Rattle.nest_base.specs.declared.numbers.Side.{Side}
+use Rattle.nest_base.specs.Plane.{HalfEdge}
 use Rattle.nest_base.specs.Range.{widest}
 use Rattle.nest_base.proofs.ListReads.{one_read, read-drop}
 use Rattle.nest_base.proofs.Selections.{same_selection}
@@ -17,12 +18,12 @@ use Rattle.plate_parts.specs.declared.leads.Lead.{Lead}
 use Rattle.plate_parts.specs.LeadIns.{IsFreeLeadIn}
 use Rattle.cover_plan.specs.Trails.{half_edge_of}
 use Rattle.cover_plan.proofs.GraphHalves.{half_is}
-use Rattle.lead_ins.specs.Corners.{IsLeadWithin}
+use Rattle.lead_ins.specs.Corners.{IsLeadWithin, IsOffEdges}
 use Rattle.lead_ins.proofs.Tried.{wider}
 use Rattle.code_moves.specs.declared.moves.Move.{Move}
 use Rattle.code_moves.specs.Meaning.{code_range}
 use Rattle.code_moves.specs.Moves.{way}
-use Rattle.ngc_meaning.specs.CodeMoves.{IsCodeMove}
+use Rattle.ngc_meaning.specs.CodeMoves.{IsCodeMove, EachFollows, before_the_code}
 use Rattle.sound_code.specs.Sound.{IsLitOffEdges, IsLeadIn, lead_of}
 use Rattle.replay_check.specs.declared.kinds.Kind.{Kind}
 use Rattle.replay_check.specs.declared.kinds.Kind.TheVariants.{OnEdge, LeadIn}
@@ -30,6 +31,7 @@ use Rattle.replay_check.specs.Kinds.{IsKind}
 use Rattle.replay_check.specs.Leads.{GoesOnAlong, AreLeadsBefore}
 use Rattle.replay_check.proofs.KindsApart.{kind_is_edge_move, edge_kind}
 use Rattle.replay_check.proofs.MoveKinds.{kind_at, has_kind}
+use Rattle.replay_check.proofs.OffEdges.{begins_there}
 use Rattle.replay_check.proofs.SelectedSoFar.{All-selected}
 
 -- a list from a place on begins with what stands there
@@ -80,7 +82,7 @@ module _ (graph : Graph) (moves : List Move) (kinds : List Kind) (are : AllZip (
       leads_in_where_free : slice_get kinds i ≡ Some LeadIn → IsFreeLeadIn graph.edges names leads (half_edge_of graph side.0) m.from →
           IsLeadIn graph.edges names (take i moves) m (drop (i + 1) moves)
       leads_in_where_free lead free = record {
-        fresh = (kind_at graph.edges moves kinds are i m LeadIn at lead).fresh;
+        fresh = (kind_at graph.edges moves kinds are i m LeadIn at lead).0.fresh;
         next = on.move;
         rest = drop (i + 1 + 1) moves;
         follows = drop_read moves (i + 1) on.move on.at;
@@ -90,6 +92,13 @@ module _ (graph : Graph) (moves : List Move) (kinds : List Kind) (are : AllZip (
         all_earlier = earlier.1;
         free = subst₂ (λ ls h. IsFreeLeadIn graph.edges names ls h m.from) earlier.2 (way_is (i + 1) side on) free;
       }
+
+      -- and since that begins where the move ends, no edge needs to be looked at again
+      pub off_before_next : EachFollows before_the_code moves → slice_get kinds i ≡ Some LeadIn → IsOffEdges graph.edges (half_edge_of graph side.0).from m.from
+      off_before_next follows lead =
+          subst (λ v. IsOffEdges graph.edges v m.from)
+          (sym (ap (λ (h : HalfEdge). h.from) (way_is (i + 1) side on) ∙ begins_there moves follows i m at on.move on.at))
+          (kind_at graph.edges moves kinds are i m LeadIn at lead).1
 
       -- and there alone
       free_where_leads_in : IsLeadIn graph.edges names (take i moves) m (drop (i + 1) moves) →

@@ -8,7 +8,7 @@ use Rattle.code_moves.specs.declared.moves.Move.{Move}
 use Rattle.code_moves.specs.Moves.{way}
 use Rattle.sound_code.specs.Sound.{IsEdgeMove}
 use Rattle.replay_check.specs.declared.kinds.Kind.{Kind}
-use Rattle.replay_check.specs.declared.kinds.Kind.TheVariants.{Unlit, OnEdge, Along, LeadIn, Off}
+use Rattle.replay_check.specs.declared.kinds.Kind.TheVariants.{Unlit, OnEdge, Along, LeadIn, Blocked, Off}
 use Rattle.replay_check.specs.Kinds.{IsAlongEdge, IsOffDrawing, IsKind}
 
 module _ (edges : List Edge) (m : Move) where
@@ -21,7 +21,8 @@ module _ (edges : List Edge) (m : Move) where
   off_kind Unlit unlit off = absurd (both_ways m.lit unlit off.off_edges.0)
   off_kind (OnEdge s) on off = absurd (off.off_edges.1 (kind_is_edge_move s on).1)
   off_kind Along along off = absurd (off.not_along along)
-  off_kind LeadIn lead off = absurd (off.no_lead_in lead)
+  off_kind LeadIn lead off = absurd (off.no_lead_in lead.0)
+  off_kind Blocked blocked off = absurd (off.no_lead_in blocked.0)
   off_kind Off is off = refl
 
   -- nor is one along an edge
@@ -29,7 +30,8 @@ module _ (edges : List Edge) (m : Move) where
   along_kind Unlit unlit along = absurd (both_ways m.lit unlit along.off_edges.0)
   along_kind (OnEdge s) on along = absurd (along.off_edges.1 (kind_is_edge_move s on).1)
   along_kind Along is along = refl
-  along_kind LeadIn lead along = absurd (lead.not_along along)
+  along_kind LeadIn lead along = absurd (lead.0.not_along along)
+  along_kind Blocked blocked along = absurd (blocked.0.not_along along)
   along_kind Off off along = absurd (off.not_along along)
 
   -- an edge move has the kind of a half-edge
@@ -37,5 +39,6 @@ module _ (edges : List Edge) (m : Move) where
   edge_kind Unlit unlit edge = absurd (both_ways m.lit unlit edge.0)
   edge_kind (OnEdge s) on edge = (s, refl)
   edge_kind Along along edge = absurd (along.off_edges.1 edge.1)
-  edge_kind LeadIn lead edge = absurd (lead.off_edges.1 edge.1)
+  edge_kind LeadIn lead edge = absurd (lead.0.off_edges.1 edge.1)
+  edge_kind Blocked blocked edge = absurd (blocked.0.off_edges.1 edge.1)
   edge_kind Off off edge = absurd (off.off_edges.1 edge.1)

@@ -20,4 +20,5 @@ pub mod CutMoves
 pub mod Soundness
 pub mod Judging
 pub mod Following
+pub mod OffEdges
 pub mod Faults

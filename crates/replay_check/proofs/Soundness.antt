@@ -10,7 +10,7 @@ use Rattle.code_moves.specs.declared.moves.Move.{Move}
 use Rattle.code_moves.specs.Moves.{way}
 use Rattle.sound_code.specs.Sound.{IsLitOffEdges, IsLeadIn, AreLeadIns}
 use Rattle.replay_check.specs.declared.kinds.Kind.{Kind}
-use Rattle.replay_check.specs.declared.kinds.Kind.TheVariants.{Unlit, OnEdge, Along, LeadIn, Off}
+use Rattle.replay_check.specs.declared.kinds.Kind.TheVariants.{Unlit, OnEdge, Along, LeadIn, Blocked, Off}
 use Rattle.replay_check.specs.Kinds.{IsKind}
 use Rattle.replay_check.specs.Leads.{LeadInsHold}
 use Rattle.replay_check.specs.Verdicts.{HoldsNowhere, StraysOff, BurnsPart, LeadsBadly}
@@ -30,7 +30,8 @@ module _ (edges : List Edge) (names : List Point) (moves : List Move) (kinds : L
       lit_or_not e = cc
   lead_in_at i m at off (OnEdge s) is = absurd (off.1 (side_is_half_edge edges s.0 (way m) is.1))
   lead_in_at i m at off Along is = absurd (none_along i m (at, is))
-  lead_in_at i m at off LeadIn is = hold i m at is
+  lead_in_at i m at off LeadIn is = hold i m at is.0
+  lead_in_at i m at off Blocked is = hold i m at is.0
   lead_in_at i m at off Off is = absurd (none_off i m (at, is))
 
   pub are_lead_ins : AreLeadIns edges names moves

@@ -6,11 +6,12 @@ use Rattle.nest_base.specs.Plane.{RationalPoint, IsOn}
 use Rattle.segment_meeting.specs.OnePoint.{IsOnePoint}
 use Rattle.plate_sides.specs.HalfEdges.{IsVertex}
 use Rattle.half_edges.specs.Numbers.{IsSide}
+use Rattle.lead_ins.specs.Corners.{IsOffEdges}
 use Rattle.code_moves.specs.declared.moves.Move.{Move}
 use Rattle.code_moves.specs.Moves.{way}
 use Rattle.sound_code.specs.Sound.{IsLitOffEdges}
 use Rattle.replay_check.specs.declared.kinds.Kind.{Kind}
-use Rattle.replay_check.specs.declared.kinds.Kind.TheVariants.{Unlit, OnEdge, Along, LeadIn, Off}
+use Rattle.replay_check.specs.declared.kinds.Kind.TheVariants.{Unlit, OnEdge, Along, LeadIn, Blocked, Off}
 
 -- the segments from a to b and from c to d have two points in common
 pub record ShareMorePoints (a b c d : Point) : Type 0 where
@@ -49,5 +50,6 @@ abbrev pub IsKind : List Edge → Move → Kind → Type 0
 IsKind edges m Unlit = m.lit ≡ false
 IsKind edges m (OnEdge s) = IsTrue m.lit × IsSide edges s.0 (way m)
 IsKind edges m Along = IsAlongEdge edges m
-IsKind edges m LeadIn = MayLeadIn edges m
+IsKind edges m LeadIn = MayLeadIn edges m × IsOffEdges edges m.to m.from
+IsKind edges m Blocked = MayLeadIn edges m × (IsOffEdges edges m.to m.from → ⊥)
 IsKind edges m Off = IsOffDrawing edges m

@@ -11,7 +11,7 @@ ghost use Rattle.replay_check.specs.Kinds.{IsKind, ShareMorePoints};
 use crate::sharing::shares_more;
 use code_moves::Move;
 use half_edges::PlaneGraph;
-use lead_ins::edge_at;
+use lead_ins::{edge_at, is_off_edges};
 use nest_base::{OutOfMemory, Point, Side};
 use std::alloc::Global;
 
@@ -24,8 +24,10 @@ pub enum Kind {
     OnEdge(Side),
     /// It burns along an edge, but not one whole edge.
     Along,
-    /// It begins a lighting and comes to a vertex.
+    /// It begins a lighting and comes to a vertex, and touches no edge before.
     LeadIn,
+    /// It begins a lighting and comes to a vertex, but touches an edge before.
+    Blocked,
     /// It burns, and is nothing of this.
     Off,
 }
@@ -62,7 +64,19 @@ fn is_vertex(graph: &PlaneGraph, p: Point) -> bool
     }
 }
 
+/// Whether a move begins a lighting and comes to a vertex.
+fn begins_to_vertex(graph: &PlaneGraph, step: &Move) -> bool
+    ensures { IsTrue result ↔ (IsTrue step.now.fresh × IsVertex graph.now.edges step.now.to) }
+{
+    if !step.fresh {
+        return false;
+    }
+    is_vertex(graph, step.to)
+}
+
 /// What a lit move is that goes along no edge from one end to the other.
+///
+/// Takes **O(n)** for n edges. What touches no edge before its end goes along none, so a good lead-in is held against all edges only once.
 fn kind_off_edges(graph: &PlaneGraph, step: &Move) -> Kind
     requires code { IsCodeMove step.now }
     requires off_edges { IsLitOffEdges graph.now.edges step.now }
@@ -71,11 +85,15 @@ fn kind_off_edges(graph: &PlaneGraph, step: &Move) -> Kind
     if step.from == step.to {
         return Kind::Off;
     }
+    let comes_to_vertex = begins_to_vertex(graph, step);
+    if comes_to_vertex && is_off_edges(graph, step.to, step.from) {
+        return Kind::LeadIn;
+    }
     if is_along(graph, step.from, step.to) {
         return Kind::Along;
     }
-    if step.fresh && is_vertex(graph, step.to) {
-        return Kind::LeadIn;
+    if comes_to_vertex {
+        return Kind::Blocked;
     }
     Kind::Off
 }

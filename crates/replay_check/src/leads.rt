@@ -17,7 +17,7 @@ use crate::kinds::Kind;
 use code_moves::Move;
 use face_nesting::Faces;
 use half_edges::PlaneGraph;
-use lead_ins::{Lead, is_free};
+use lead_ins::{Lead, is_free_off_edges};
 use nest_base::{OutOfMemory, Side};
 use part_scrap::Parts;
 use std::alloc::Global;
@@ -46,8 +46,8 @@ fn lead_of(step: &Move) -> Lead
     }
 }
 
-/// Whether the move at place `i`, which may be a lead-in, is one: the next move goes along an edge in the same lighting, and it is free before
-/// that edge.
+/// Whether the move at place `i`, which may be a lead-in and touches no edge before its end, is one: the next move goes along an edge in the
+/// same lighting, and it is free before that edge.
 fn leads_in(
     graph: &PlaneGraph,
     faces: &Faces,
@@ -69,14 +69,14 @@ fn leads_in(
         (m : Move) → slice_get moves.now i ≡ Some m → IsTrue result ↔ IsLeadIn graph.now.edges places (take i moves.now) m (drop (i + 1) moves.now) }
 {
     match side_behind(moves, kinds, i + 1) {
-        Some(side) => is_free(graph, faces, parts, moves[i].from, side, earlier),
+        Some(side) => is_free_off_edges(graph, faces, parts, moves[i].from, side, earlier),
         None => false,
     }
 }
 
 /// The line of the first move that may be a lead-in and is none.
 ///
-/// For n edges and l moves along no edge takes **O(ln + l²)**, and memory for these moves.
+/// For m moves, l of them along no edge, takes **O(m + l²)**, and memory for these l.
 pub fn first_bad_lead(
     alloc: Global,
     graph: &PlaneGraph,
@@ -100,6 +100,7 @@ pub fn first_bad_lead(
         match kinds[i] {
             Kind::Unlit | Kind::OnEdge(_) => {}
             Kind::Along | Kind::Off => leads.push(lead_of(&moves[i]))?,
+            Kind::Blocked => return Ok(Some(moves[i].line)),
             Kind::LeadIn => {
                 if !leads_in(graph, faces, parts, moves, kinds, i, &leads) {
                     return Ok(Some(moves[i].line));

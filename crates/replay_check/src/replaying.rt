@@ -119,8 +119,8 @@ fn judge(
 
 /// Whether the moves of a code cut a drawing soundly, or the first fault that they have in the order of `Verdict`.
 ///
-/// For n edges, m moves and l moves along no edge takes **O(n + m + ln + l²)**, and memory for the moves and the edges. `OutOfMemory` comes
-/// for want of memory alone.
+/// For n edges, at most d of them at one vertex, m moves and l moves along no edge takes **O(n + m log d + ln + l²)**, as hashing goes, and
+/// memory for the moves and the edges. `OutOfMemory` comes for want of memory alone.
 pub fn replay(
     alloc: Global,
     graph: &PlaneGraph,

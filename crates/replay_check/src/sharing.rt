@@ -1,7 +1,8 @@
 //! Whether a move has more than one point in common with an edge.
-ghost use Rattle.std.specs.Prelude.{◌≡◌, ◌≢◌, ◌⊎◌, ◌↔◌, IsTrue};
+ghost use Rattle.std.specs.Prelude.{◌≡◌, ◌≢◌, ◌⊎◌, ◌↔◌, IsTrue, pos};
 ghost use Rattle.nest_base.specs.Order.{IsBefore};
 ghost use Rattle.nest_base.specs.Range.{IsWithin, IsEdgeWithin, widest};
+ghost use Rattle.segment_meeting.specs.Orientation.{orientation};
 ghost use Rattle.replay_check.specs.Kinds.{ShareMorePoints};
 
 use nest_base::{Edge, Point, cross};
@@ -26,10 +27,21 @@ fn in_order(a: Point, b: Point) -> Edge
     }
 }
 
+/// Whether `p` lies on the line through `a` and `b`.
+fn is_on_line(a: Point, b: Point, p: Point) -> bool
+    requires a_within { IsWithin widest a }
+    requires b_within { IsWithin widest b }
+    requires p_within { IsWithin widest p }
+    ensures { IsTrue result ↔ (orientation a b p ≡ pos 0) }
+{
+    cross(a, b, p) == 0
+}
+
 /// Whether the straight way from `a` to `b` has more than one point of the plane in common with an edge: both lie on one line, and
 /// the low end of each is less than the high end of the other.
 ///
-/// All coordinates lie within 2,000,000,000 micrometres. Nothing is allocated.
+/// All coordinates lie within 2,000,000,000 micrometres. Nothing is allocated. The ends are compared first, since of most edges they tell
+/// it with no product.
 pub fn shares_more(a: Point, b: Point, e: &Edge) -> bool
     requires apart { a ≢ b }
     requires ends_in_order { IsBefore e.now.low e.now.high }
@@ -39,15 +51,15 @@ pub fn shares_more(a: Point, b: Point, e: &Edge) -> bool
     ensures shared { IsTrue result → ShareMorePoints a b e.now.low e.now.high }
     ensures not_shared { ShareMorePoints a b e.now.low e.now.high → IsTrue result }
 {
-    if cross(a, b, e.low) != 0 {
-        return false;
-    }
-    if cross(a, b, e.high) != 0 {
-        return false;
-    }
     let m = in_order(a, b);
     if !is_before(e.low, m.high) {
         return false;
     }
-    is_before(m.low, e.high)
+    if !is_before(m.low, e.high) {
+        return false;
+    }
+    if !is_on_line(a, b, e.low) {
+        return false;
+    }
+    is_on_line(a, b, e.high)
 }

@@ -6,9 +6,10 @@ use Rattle.plate_parts.specs.declared.leads.Lead.{Lead}
 use Rattle.code_moves.specs.declared.moves.Move.{Move}
 use Rattle.ngc_meaning.specs.CodeMoves.{before_the_code}
 use Rattle.replay_check.specs.declared.kinds.Kind.{Kind}
-use Rattle.replay_check.specs.declared.kinds.Kind.TheVariants.{Unlit}
+use Rattle.replay_check.specs.declared.kinds.Kind.TheVariants.{Unlit, Blocked}
 use Rattle.replay_check.specs.Kinds.{IsKind, MayLeadIn}
 use Rattle.replay_check.proofs.MoveKinds.{kind_below, kind_here, not_off_edges, off_edges_alone}
+use Rattle.replay_check.proofs.OffEdges.{lead_in_is_off}
 use Rattle.replay_check.proofs.LeadsSoFar.{none_yet, lead_passed, lead_added, holds_of_next, first_bad, all_hold}
 use Rattle.replay_check.proofs.leads.first_bad_lead.Goals.{in-Unlit, in-Along+in_ok-push-in-Along, in-LeadIn+else-not-leads_in+in_ok-push-in-LeadIn}
 use Rattle.replay_check.proofs.leads.first_bad_lead.Goals as goal
@@ -35,8 +36,20 @@ returns-then-not-leads_in-clause-bad c = λ places told.
     let m : Move = get_or moves i before_the_code in
     let at : slice_get moves i ≡ Some m = slice_get-get_or moves i before_the_code c.loop-i-test.true in
     let may : MayLeadIn edges m =
-    subst (IsKind edges m) c.in-LeadIn.is (kind_here edges moves c.args.kinds.now c.requires.kinds i before_the_code Unlit c.loop-i-test.true) in
+    (subst (IsKind edges m) c.in-LeadIn.is (kind_here edges moves c.args.kinds.now c.requires.kinds i before_the_code Unlit c.loop-i-test.true)).0 in
     first_bad edges moves i m at places (c.loop-i.invariant.hold places told) may (iff_false (c.leads_in.ensures places told m at) c.if-not-leads_in.true)
+
+pub returns-in-Blocked-clause-bad : goal.returns-in-Blocked-clause-bad
+returns-in-Blocked-clause-bad c = λ places told.
+    let edges = c.args.graph.now.edges in
+    let moves = c.args.moves.now in
+    let i = c.loop-i.i in
+    let m : Move = get_or moves i before_the_code in
+    let at : slice_get moves i ≡ Some m = slice_get-get_or moves i before_the_code c.loop-i-test.true in
+    let blocked : IsKind edges m Blocked =
+    subst (IsKind edges m) c.in-Blocked.is (kind_here edges moves c.args.kinds.now c.requires.kinds i before_the_code Unlit c.loop-i-test.true) in
+    first_bad edges moves i m at places (c.loop-i.invariant.hold places told) blocked.0
+    (λ is. blocked.1 (lead_in_is_off moves c.requires.moves.in_order i m at edges places is))
 
 pub loop-i-preserved : goal.loop-i-preserved
 loop-i-preserved c =
@@ -64,7 +77,7 @@ loop-i-preserved c =
             hold = λ places told. holds_of_next edges moves i m at places (before.hold places told) (λ may. absurd (off.1 may));
           }
       | in-LeadIn+else-not-leads_in+in_ok-push-in-LeadIn w ↦
-          let may : MayLeadIn edges m = subst (IsKind edges m) w.in-LeadIn.is is in
+          let may : MayLeadIn edges m = (subst (IsKind edges m) w.in-LeadIn.is is).0 in
           record {
             leads = lead_added edges moves i m at c.loop-i.leads.items c.match-kinds-i.leads.items w.lead_of-in-LeadIn.result before.leads may.off_edges
                 (ap items_of w.leads-is ∙ w.in_ok-push-in-LeadIn.ensures.items) w.lead_of-in-LeadIn.ensures;
